@@ -1,11 +1,11 @@
 //! All pieces of a flush in one list.
-ghost use Rattle.std.specs.Prelude.{◌≡◌, ◌+◌, ◌≤◌, [], ◌∷◌, ◌++◌, None, IsSome, vec_len, vec_capacity};
+ghost use Rattle.std.specs.Prelude.{◌≡◌, ◌+◌, ◌≤◌, [], ◌∷◌, ◌++◌, length, None, IsSome, vec_len, vec_capacity};
 ghost use Rattle.h5w_model.specs.Numbers.{undefined};
 ghost use Rattle.h5w_pieces.specs.Joined.{AreJoined, IsNaming, option_list};
 
 use h5w_bytes::UNDEFINED;
 use h5w_cache::Plan;
-use h5w_model::Write;
+use h5w_model::{Piece, Write};
 
 /// All pieces of a flush that changes no block of the index: the rows, the superblock if there is one, and last the dataset header. `rows`
 /// has room for what comes behind it.
@@ -18,6 +18,39 @@ pub fn end_with(mut rows: Vec<Write>, superblock: Option<Write>, header: Write) 
         rows.push_reserved(block);
     }
     rows.push_reserved(header);
+    rows
+}
+
+/// Adds the piece of these bytes at a place. It gets its bytes where it stands in the list.
+#[inline(always)]
+fn put_last(at: u64, bytes: &[u8], pieces: &mut Vec<Write>)
+    requires short { length bytes.now ≤ 512 }
+    requires room { vec_len pieces.old + 1 ≤ vec_capacity pieces.old }
+    ensures items { pieces.new.items ≡ pieces.old.items ++ record { at = at; piece = bytes.now } ∷ [] }
+    ensures room { vec_capacity pieces.new ≡ vec_capacity pieces.old }
+{
+    let piece = Piece::new();
+    pieces.push_reserved(Write { at, piece });
+    if let Some(last) = pieces.last_mut() {
+        last.piece.set(bytes);
+    }
+}
+
+/// The same as [`end_with`], where the header is this piece at a place. Its bytes are copied once, to where they stand in the list.
+pub fn end_at(
+    mut rows: Vec<Write>,
+    superblock: Option<Write>,
+    at: u64,
+    header: &Piece,
+) -> Vec<Write>
+    requires { vec_len rows + 2 ≤ vec_capacity rows }
+    ensures exact { result.items ≡ rows.items ++ (option_list superblock ++ record { at = at; piece = header.now } ∷ []) }
+    ensures room { 1 ≤ vec_capacity result }
+{
+    if let Some(block) = superblock {
+        rows.push_reserved(block);
+    }
+    put_last(at, header.as_slice(), &mut rows);
     rows
 }
 

@@ -12,5 +12,5 @@ pub use h5w_cache::Plan;
 pub use h5w_chunks::{ChunkPlace, Grid};
 pub use h5w_model::{OutOfMemory, Write};
 pub use h5w_types::IntType;
-pub use joining::{end_with, join, join_first, naming};
+pub use joining::{end_at, end_with, join, join_first, naming};
 pub use rows::{alone_pieces, put_behind};

@@ -40,7 +40,7 @@ no_place k p at = let clash : ◌≡◌ {A = Option ChunkPlace} None (Some p) = 
 pub none_touched : (d : Described) (from : ℕ) → touched d from (from + 0) ≡ 0
 none_touched d from = cond-false (nat_lt from (from + 0)) ((div_up (from + 0) d.layout.chunk_rows - from / d.layout.chunk_rows) * chunks_across d) 0 (le-ltb from (from + 0) (omega arith))
 
-no_rows_stand : (d : Described) (from : ℕ) (img cells : List ℕ) → RowsStand img d cells from (from + 0) [] []
+pub no_rows_stand : (d : Described) (from : ℕ) (img cells : List ℕ) → RowsStand img d cells from (from + 0) [] []
 no_rows_stand d from img cells = record {
   placed = λ row column low high. absurd (omega (arith, low, high));
   stands = λ row column p is low high. absurd (omega (arith, low, high));

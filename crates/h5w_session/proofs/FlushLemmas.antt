@@ -8,7 +8,7 @@ use Rattle.h5w_model.specs.Headers.{with_rows_bytes}
 use Rattle.h5w_model.specs.Lawful.{first_outside}
 use Rattle.h5w_model.specs.Messages.{IsIntType}
 use Rattle.h5w_model.specs.Tables.{format_limits, limit_of, needed}
-use Rattle.h5w_model.specs.Logs.{Log, plans, flushed_in, flushed_rows, appended_in, and_now}
+use Rattle.h5w_model.specs.Logs.{Log, load, plans, flushed_in, flushed_rows, appended_in, and_now}
 use Rattle.h5w_model.specs.Datasets.{Described}
 use Rattle.h5w_model.specs.Findings.{Used, chunk_bytes}
 use Rattle.h5w_model.specs.declared.cell.Key.{Key}
@@ -27,7 +27,7 @@ use Rattle.h5w_steps.specs.Logs.{image_now}
 use Rattle.h5w_steps.specs.Sessions.{Runs}
 use Rattle.h5w_steps.proofs.SessionLaws.{lt-leb-false}
 use Rattle.h5w_flush_laws.specs.Spaces.{Taken}
-use Rattle.h5w_flush_laws.specs.Knowledge.{HeldMissed, KnownHeld}
+use Rattle.h5w_flush_laws.specs.Knowledge.{HeldMissed, Holding, KnownHeld, Knows}
 use Rattle.h5w_flush_laws.specs.Parts.{Parts, AreEnded, block_writes, flushed_to, pieces_of, IsFlush}
 use Rattle.h5w_flush_laws.specs.Rows.{ArePlaced, IsOutside, IsPlaced, new_chunks}
 use Rattle.h5w_flush_laws.specs.Flushes.{IsKnownThen, Rests as FileRests}
@@ -40,6 +40,7 @@ use Rattle.h5w_array_flushes.proofs.ArrayLaws.{new_are}
 use Rattle.h5w_index.specs.Views.{IndexView, address_in}
 use Rattle.h5w_index.specs.Steps.{IsPlan}
 use Rattle.h5w_index.specs.Flushes.{IsIndexPart, PlanTold, Rests, RestsClean, index_parts}
+use Rattle.h5w_index.specs.Marks.{IsRaised}
 use Rattle.h5w_index.specs.Naming.{AreTaken}
 use Rattle.h5w_index.specs.Placing.{IsPlacing}
 use Rattle.h5w_index.proofs.BehindLemmas.{behind_laws}
@@ -47,8 +48,9 @@ use Rattle.h5w_index.proofs.FlushLemmas.{index_is_flush, index_rests_then, plan_
 use Rattle.h5w_index.proofs.MarkLemmas.{mark_laws}
 use Rattle.h5w_index.proofs.NamingLemmas.{naming_laws}
 use Rattle.h5w_index.proofs.PartLemmas.{index_part}
-use Rattle.h5w_session.specs.Sessions.{Session, rows_of, with_rows, IsNamed}
+use Rattle.h5w_session.specs.Sessions.{Session, cutting_of, rows_of, with_rows, IsNamed}
 use Rattle.h5w_session.specs.Flushes.{ArePlanned, IsFlushed, flushed_of, header_piece}
+use Rattle.h5w_session.specs.PartLaws.{IsPartFlushed}
 use Rattle.h5w_session.specs.PartOf.{IsPartOf}
 use Rattle.h5w_session.specs.Past.{IsCounted, Past}
 use Rattle.h5w_session.specs.Stands.{Running}
@@ -331,4 +333,25 @@ module _ (old new : Session) (log : Log) (x : IsFlushed old new) (r : Running ol
     after = refl;
     held = refl;
     rest = refl;
+  }
+
+  -- the writes of the rows meet nothing of whatever may be held
+  shows_missed : (held : List Used) → Holding r.after r.rest held → HeldMissed held x.planned.rows
+  shows_missed held holding =
+      let k = known.knows in
+      let more : Knows (image_now log) old.name r.after map_before r.rest = record { file = k.file; index = k.index; live = k.live; ended = k.ended; covered = k.covered; held = held; holding = holding; layout = k.layout } in
+      (rows_flush (image_now log) old.name r.after map_before r.rest x.planned.between (parts r.after old new x all_values) x.planned.chunks more taken rises few_after count_after placed).off_held
+
+  -- so of a session that is one of several
+  pub part_flushed : Past (flushed_of old new.places new.pending new.index) new.pending (and_now (plans (length new.pending)) log) after_flush → length new.pending ≤ load (cutting_of old) log → IsRaised old.places new.places (load (cutting_of old) log)
+      → IsPartFlushed old (flushed_of old new.places new.pending new.index) log r
+  unfolding flush_running
+  part_flushed past few raised = record {
+    parts = parts r.after old new x all_values;
+    flush = subst (λ (f : Key → ℕ). IsFlush (image_now log) r.after f r.rest (parts r.after old new x all_values) new.places) (sym same_map) is_flush;
+    missed = shows_missed;
+    pieces = all_pieces;
+    runs = record { running = flush_running past; after = refl; address_is = refl; held_is = refl; rest_is = refl };
+    few = few;
+    raised = raised;
   }

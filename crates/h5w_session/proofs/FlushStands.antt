@@ -19,6 +19,7 @@ use Rattle.h5w_index.specs.Blocks.{has_no_block}
 use Rattle.h5w_session.specs.Indexes.{IsKeptIndex, Lacks, an_index, a_block}
 use Rattle.h5w_session.proofs.HeaderAlone.{same_block}
 use Rattle.h5w_session.specs.Flushes.{IsFlushed, SameBut, flushed_of}
+use Rattle.h5w_session.specs.PartLaws.{RunsAs}
 use Rattle.h5w_session.specs.Past.{Past}
 use Rattle.h5w_session.specs.Stands.{Running, Stands}
 use Rattle.h5w_session.proofs.PastLemmas.{like_itself, past_planned, past_same}
@@ -98,6 +99,10 @@ nothing_running s log none r =
       past = past_planned s s 0 [] log m m (like_itself s) (raised_more s.places s.places 0 (load (cutting_of s) log) (omega arith) (raised_none s.places s.places refl refl)) tt r.past.next r.past;
     }
 
+pub nothing_as : (s : Session) (log : Log) (r : Running s [] log) → s.waits ≡ 0 → RunsAs s [] (and_now (plans 0) log) r.after r.address r.held r.rest
+unfolding nothing_running
+nothing_as s log r none = record { running = nothing_running s log none r; after = refl; address_is = refl; held_is = refl; rest_is = refl }
+
 -- a flush of no rows plans no pieces
 pub nothing_stands : (s : Session) (log : Log) → s.stopped ≡ false → s.pending ≡ [] → s.waits ≡ 0 → Stands s log → Stands s (and_now (plans 0) log)
 nothing_stands s log running idle none st =
@@ -145,6 +150,13 @@ refused_running old new log b r = record {
   columns = r.columns;
   past = past_same old (record old { index = new.index }) [] log r.after (record { name = refl; place = refl; dataset = refl; address = λ named. refl; limit = refl; own = λ o. (b.held.own o.0, same_block old.index new.index (placing_laws.kept old.dataset (rows_of old) old.index new.index b.held).like.fixed ∙ o.1); reach = λ first img reached more key low there. b.held.reach key there (reached more key low (λ e. there ((placing_laws.kept old.dataset (rows_of old) old.index new.index b.held).map key ∙ e))); roomy = b.roomy }) refl r.past;
 }
+
+index_as : (old new : Session) (log : Log) (r : Running old [] log) → SameBut old new → RunsAs (record old { index = new.index }) [] log r.after r.address r.held r.rest
+unfolding refused_running
+index_as old new log r b = record { running = refused_running old new log b r; after = refl; address_is = refl; held_is = refl; rest_is = refl }
+
+pub refused_as : (old new : Session) (log : Log) (r : Running old [] log) → SameBut old new → RunsAs new [] log r.after r.address r.held r.rest
+refused_as old new log r b = subst (λ (t : Session). RunsAs t [] log r.after r.address r.held r.rest) (sym b.session) (index_as old new log r b)
 
 pub refused_stands : (old new : Session) (log : Log) → SameBut old new → old.stopped ≡ false → old.pending ≡ [] → Stands old log → Stands new log
 refused_stands old new log b running idle st =

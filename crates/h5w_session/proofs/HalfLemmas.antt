@@ -38,6 +38,7 @@ use Rattle.h5w_session.specs.declared.planned.Starting.{Starting}
 use Rattle.h5w_session.specs.Halves.{IsReady, PlansAlone, PlansGrowth, PlansStart, grown_of}
 use Rattle.h5w_session.specs.Sessions.{AllEndBy, ArePieces, IsRoomy, IsSession, IsUnmade, IsWhole, Session, chunk_limit, next_row, rows_of, with_rows}
 use Rattle.h5w_session.specs.Flushes.{IsFlushed, IsPrepared, SameBut}
+use Rattle.h5w_session.specs.Lent.{IsFurther}
 use Rattle.h5w_session.proofs.CarriedLemmas.{Carried, carried_ends, carried_flushed, carried_is, carried_list, refused_is, refused_same}
 use Rattle.h5w_session.proofs.EarlyLemmas.{none_touched}
 use Rattle.h5w_session.proofs.FlushedLemmas.{fits_same}
@@ -46,19 +47,13 @@ use Rattle.h5w_session.proofs.PastLemmas.{ends_later as pieces_later}
 
 -- ---- The places of a plan that is begun
 
--- the end is no lower, and within the limit, which stays, where it was so before
-record IsFurther (s t : Space) : Type 0 where
-  rises : s.end ≤ t.end
-  limit : t.limit ≡ s.limit
-  fits : t.end ≤ max s.end s.limit
-
-further : (s t : Space) (most : ℕ) → IsRaised s t most → IsFurther s t
+pub further : (s t : Space) (most : ℕ) → IsRaised s t most → IsFurther s t
 further s t most r = record { rises = r.rises; limit = r.limit; fits = omega (arith, r.fits, r.limit) }
 
-further_on : (s t u : Space) → IsFurther s t → IsFurther t u → IsFurther s u
+pub further_on : (s t u : Space) → IsFurther s t → IsFurther t u → IsFurther s u
 further_on s t u a b = record { rises = omega (arith, a.rises, b.rises); limit = b.limit ∙ a.limit; fits = omega (arith, a.fits, b.fits, a.limit) }
 
-begun_further : (v : IndexView) (s : Space) (b : Begun) (t : Space) → IsSound v → IsBegun v s b t → IsFurther s t
+pub begun_further : (v : IndexView) (s : Space) (b : Begun) (t : Space) → IsSound v → IsBegun v s b t → IsFurther s t
 begun_further (an_array v) s (Array b) t is x =
     let moved = further s x.taken.taken _ (moves_raised v is s b.moves x.taken.taken x.taken.moves) in
     let roomy = further x.taken.taken x.roomy 0 (raised_none x.taken.taken x.roomy (ap (λ (u : Space). u.end) x.taken.roomy) (ap (λ (u : Space). u.limit) x.taken.roomy)) in
@@ -167,7 +162,7 @@ module _ (s : Session) (is : IsSession s) (there : IsWhole s) (p : Prepared) (ad
   behind : IsFurther r.prepared.between t
   behind = begun_further named r.prepared.between p.begun t names.partly.like.sound r.prepared.begun
 
-  far : IsFurther s.places t
+  pub far : IsFurther s.places t
   far = further_on s.places r.prepared.between t (further s.places r.prepared.between _ r.prepared.taken.raised) behind
 
   pub grown_rises : s.places.end ≤ t.end

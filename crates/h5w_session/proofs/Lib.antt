@@ -7,7 +7,6 @@ pub mod PastLemmas
 pub mod EarlyLemmas
 pub mod StandLemmas
 pub mod CreatingLemmas
-pub mod OptionLemmas
 pub mod SessionStarts
 pub mod TakingLemmas
 pub mod RootLooks
@@ -31,6 +30,7 @@ pub mod PrepareLemmas
 pub mod CarriedLemmas
 pub mod HalfLemmas
 pub mod StartKinds
+pub mod StartParts
 pub mod StartPlaces
 pub mod PlannedRows
 pub mod StartedLemmas
@@ -40,6 +40,8 @@ pub mod NextLemmas
 pub mod ReachedLemmas
 pub mod LoadLemmas
 pub mod ToldLemmas
+pub mod LentLemmas
+pub mod PassedLemmas
 pub mod EarlyStands
 pub mod EarlyLoads
 pub mod AppendStands
@@ -48,3 +50,4 @@ pub mod HeaderAlone
 pub mod StartLoads
 pub mod FlushCalls
 pub mod OpenedLemmas
+pub mod PartLemmas

@@ -2,7 +2,7 @@
 use Rattle.std.proofs.Common.{◌≡◌, ℕ, ◌+◌, ◌-◌, ◌*◌, ◌/◌, ◌<◌, ◌≤◌, false, nat_lt, List, [], ◌∷◌, ◌++◌, length, sym, ap, ◌∙◌, subst, inl, arith, length-append}
 use Rattle.std.proofs.lemmas.Bool.{cond-true, lt-ltb}
 use Rattle.std.proofs.lemmas.Nat.{mul-le}
-use Rattle.h5w_model.specs.Logs.{Log, appended, div_up, flushed, load, plans, spent, touched_chunks, and_now}
+use Rattle.h5w_model.specs.Logs.{Log, appended, div_up, flushed, load, plans, touched_chunks, and_now}
 use Rattle.h5w_model.specs.Datasets.{Described}
 use Rattle.h5w_model.specs.Findings.{chunk_bytes}
 use Rattle.h5w_model.specs.Tables.{chunks_across, keys_across}
@@ -25,7 +25,7 @@ use Rattle.h5w_index.proofs.PartlyLemmas.{own_laws}
 use Rattle.h5w_index.proofs.PlacingLemmas.{placing_laws}
 use Rattle.h5w_index.proofs.RaisedLemmas.{raised_more, raised_on}
 use Rattle.h5w_session.specs.Flushes.{ArePlanned, IsFlushed, flushed_of, header_piece, touched_by}
-use Rattle.h5w_session.specs.Loads.{NoPlace, first_end_of}
+use Rattle.h5w_session.specs.PartLaws.{HasNoPlace}
 use Rattle.h5w_session.specs.Past.{IsCounted, IsMadeHere, Past}
 use Rattle.h5w_session.specs.Sessions.{IsRoomy, Session, AllEndBy, AreReached, cutting_of, most_lines, next_row, rows_of, with_rows}
 use Rattle.h5w_steps.specs.Logs.{image_now}
@@ -157,7 +157,7 @@ like_flushed old new e limit own reached roomy =
     }
 
 module _ (old new : Session) (log : Log) (x : IsFlushed old new) (running : old.stopped ≡ false) (idle : old.pending ≡ []) (st : Stands old log) (r : Running old [] log) where
-  flush_raised : IsRaised old.places new.places (load (cutting_of old) log)
+  pub flush_raised : IsRaised old.places new.places (load (cutting_of old) log)
   flush_raised =
       let most = most_of old.dataset (rows_of old) in
       raised_more old.places new.places most (load (cutting_of old) log) (at_most most (1000 + most) (load (cutting_of old) log) (omega arith) (load_is old log running idle st))
@@ -174,7 +174,7 @@ module _ (old new : Session) (log : Log) (x : IsFlushed old new) (running : old.
       between_same (length new.pending) _ _ (load (cutting_of old) log) total (planned_few old old.index old.places new.index new.places p r.marks log r) (sym (load_is old log running idle st))
 
   -- what it keeps of the past
-  past_flushed : AllEndBy new.places.end new.pending → Past new new.pending (and_now (plans (length new.pending)) log) (after_flush old new log x r)
+  pub past_flushed : AllEndBy new.places.end new.pending → Past new new.pending (and_now (plans (length new.pending)) log) (after_flush old new log x r)
   past_flushed within =
       past_planned old new (length new.pending) new.pending log r.after (after_flush old new log x r) (like_flushed old new x.session flush_raised.limit (λ o. (planned_own old old.index old.places new.index new.places x.planned o.0, same_block old.index new.index ((told_of old old.index old.places new.index new.places x.planned).stay ∙ x.planned.names.partly.like.fixed) ∙ o.1)) (any_reached old new (inl x)) (planned_roomy old old.index old.places new.index new.places x.planned)) flush_raised
       within (λ new_log. next_addressed old new log x r new_log) r.past
@@ -194,25 +194,23 @@ flush_shows old new log x running idle within st r =
 
 -- ---- A full file
 
-pub refused_bound : (s : Session) (log : Log) (t : Space) (n size : ℕ) (full : Full) → 0 < s.waits → s.places.end ≤ first_end_of log + spent (cutting_of s) log → IsRaised s.places t n → n ≤ load (cutting_of s) log → IsRefused t size full
-    → 1 ≤ size → size ≤ load (cutting_of s) log → NoPlace s log full
-refused_bound s log t n size full waits grew raised few refused some small =
+pub refused_bound : (s : Session) (log : Log) (t : Space) (n size : ℕ) (full : Full) → IsRaised s.places t n → n ≤ load (cutting_of s) log → IsRefused t size full → 1 ≤ size → size ≤ load (cutting_of s) log → HasNoPlace s log full
+refused_bound s log t n size full raised few refused some small =
     let at : full.at ≡ t.end = ap (λ (f : Full). f.at) refused.is in
     let bytes : full.size ≡ size = ap (λ (f : Full). f.size) refused.is in
     let limit : full.limit ≡ t.limit = ap (λ (f : Full). f.limit) refused.is in
     record {
-      waits = waits;
       some = omega (arith, bytes, some);
       limit = limit ∙ raised.limit;
       past = omega (arith, at, bytes, limit, refused.no_room);
       size_bound = omega (arith, bytes, small);
-      at_bound = omega (arith, at, grew, raised.bound, few);
+      at_bound = omega (arith, at, raised.bound, few);
     }
 
 -- Where rows that wait have no place for their first new chunk that has none, or else for the first block in turn: then the place that
 -- is not there is bounded, also where the blocks of an index without chunks took places first.
 pub part_no_place : (s : Session) (log : Log) → s.stopped ≡ false → s.pending ≡ [] → Stands s log → 0 < s.waits → (full : Full) (v : IndexView) → IsMarked s.dataset s.dataset.shape.rows (rows_of s) v → (base : Space) (taken : ℕ)
-    → taken ≤ 1000 → IsRaised s.places base taken → IsFullPart s.dataset (rows_of s) v s.chunks base full → NoPlace s log full
+    → taken ≤ 1000 → IsRaised s.places base taken → IsFullPart s.dataset (rows_of s) v s.chunks base full → HasNoPlace s log full
 part_no_place s log running idle st waits full v marks base taken little risen none =
     let r = idle_running s log running idle st in
     let c = counted s r.past.counted in
@@ -220,5 +218,5 @@ part_no_place s log running idle st waits full v marks base taken little risen n
     let top = load (cutting_of s) log in
     let loads = load_is s log running idle st in
     let b = placing_laws.full s.dataset (rows_of s) v s.chunks base full (let bytes = c.bytes in let same = c.same in omega (arith, bytes, same)) (some_touched s c waits) marks none in
-    refused_bound s log b.before (taken + most) b.size full waits r.past.grew (raised_on s.places base b.before taken most risen b.raised) (at_most (taken + most) (1000 + most) top (omega (arith, little)) loads)
+    refused_bound s log b.before (taken + most) b.size full (raised_on s.places base b.before taken most risen b.raised) (at_most (taken + most) (1000 + most) top (omega (arith, little)) loads)
     b.refused b.some (at_most b.size (1000 + most) top (let few = b.few in omega (arith, few)) loads)

@@ -20,6 +20,7 @@ use Rattle.h5w_creation_laws.specs.CreatedFiles.{CreatedFile, created_blocks, he
 use Rattle.h5w_session.specs.Early.{HasEarly}
 use Rattle.h5w_session.specs.Loads.{end_in, first_end_of}
 use Rattle.h5w_session.specs.Openings.{IsOver, OverLaws, opened_log}
+use Rattle.h5w_session.specs.PartLaws.{RunsAs}
 use Rattle.h5w_session.specs.Past.{IsNew, Past}
 use Rattle.h5w_session.specs.Sessions.{AreReached, Session, rows_of, with_rows}
 use Rattle.h5w_session.specs.Reaches.{FileFinds}
@@ -97,8 +98,8 @@ module _ (s : Session) (img : List ℕ) (rows columns : ℕ) (values : List ℤ)
       subst (λ (n : ℕ). HasEarly s.dataset n s.chunks s.places img (λ key. address_in s.index key) s.places []) (sym b.early)
       (subst (λ (ps : List ChunkPlace). HasEarly s.dataset 0 ps s.places img (λ key. address_in s.index key) s.places []) (sym b.chunks) none)
 
-  running : Running s [] log
-  running = record {
+  pub over_running : Running s [] log
+  over_running = record {
     after = m;
     address = λ key. address_in s.index key;
     held = m.behind;
@@ -124,8 +125,12 @@ module _ (s : Session) (img : List ℕ) (rows columns : ℕ) (values : List ℤ)
     past = past;
   }
 
+  pub over_as : RunsAs s [] log m (λ key. address_in s.index key) m.behind s.places
+  unfolding over_running
+  over_as = record { running = over_running; after = refl; address_is = refl; held_is = refl; rest_is = refl }
+
   pub over_stands : Stands s log
-  over_stands = record { left = []; dropped = inl (sym b.idle); phase = inr running; prefixed = goes.prefixed; still = goes.still }
+  over_stands = record { left = []; dropped = inl (sym b.idle); phase = inr over_running; prefixed = goes.prefixed; still = goes.still }
 
 pub over_laws : OverLaws
 over_laws = record {

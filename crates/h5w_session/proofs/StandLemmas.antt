@@ -25,22 +25,22 @@ use Rattle.h5w_steps.specs.Steps.{Ends, ends}
 use Rattle.h5w_steps.specs.Logs.{Goes, image_now}
 use Rattle.h5w_steps.specs.Sessions.{Runs}
 use Rattle.h5w_steps.proofs.GoesLemmas.{image_pushed}
-use Rattle.h5w_steps.proofs.SessionLaws.{piece_runs}
+use Rattle.h5w_steps.proofs.SessionLaws.{append_runs, piece_runs}
 use Rattle.h5w_steps.proofs.StepRepresents.{ends_missed}
-use Rattle.h5w_flush_laws.specs.Flushes.{Rests}
 use Rattle.h5w_flush_laws.specs.Knowledge.{KnownHeld}
 use Rattle.h5w_flush_laws.specs.Spaces.{extent_of}
 use Rattle.h5w_flush_laws.proofs.EarlyLemmas.{header_kept}
 use Rattle.h5w_flush_laws.proofs.KnownLaws.{end_known}
 use Rattle.h5w_flush_laws.proofs.SpaceLemmas.{committed_live}
 use Rattle.h5w_flush_laws.proofs.FlushLaws.{freed_known}
-use Rattle.h5w_flush_laws.proofs.SessionLaws.{session_laws}
 use Rattle.h5w_session.specs.Sessions.{Session, AreRows, Freed, cleared, closed_of, closed_root, stopped_of, with_values}
 use Rattle.h5w_session.specs.Early.{HasEarly}
 use Rattle.h5w_session.specs.Indexes.{IsKeptIndex}
 use Rattle.h5w_session.specs.Past.{IsCounted}
 use Rattle.h5w_session.specs.Openings.{flagged, flagged_root}
+use Rattle.h5w_session.specs.PartLaws.{RunsAs, super_piece}
 use Rattle.h5w_session.specs.Stands.{Running, Stands}
+use Rattle.h5w_session.specs.Told.{moved_to}
 use Rattle.h5w_types.proofs.RunLemmas.{by_cell, first_has_cell, first_outside-cons}
 use Rattle.h5w_index.proofs.MarkLemmas.{mark_laws}
 use Rattle.h5w_session.proofs.EarlyLemmas.{early_freed, early_missed}
@@ -92,8 +92,6 @@ waits_more waits more early cols some =
 
 unfoldable pub values_running : (s : Session) (values : List ℤ) (log : Log) → 1 ≤ s.dataset.shape.cols → AreRows s values → first_outside s.dataset.int_type 0 values ≡ None → Running s [] log → Running (with_values s values) [] (and_now (appends values) log)
 values_running s values log some rows fit r =
-    let rests : Rests s.name log r.after r.address r.rest = record { knows = r.knows; runs = subst (λ (us : List Used). Runs s.name log [] r.after us) (sym r.holds) r.runs } in
-    let next = session_laws.appends_values s.name log r.after r.address r.rest values rests in
     let more = length values / s.dataset.shape.cols in
     let count = rows_are s values some rows in
     let early = r.some in
@@ -101,11 +99,11 @@ values_running s values log some rows fit r =
     record {
       after = r.after;
       address = r.address;
-      held = next.knows.held;
-      runs = next.runs;
+      held = r.held;
+      runs = append_runs s.name log values r.after r.after r.held r.held [] r.runs (refl, refl);
       rest = r.rest;
-      knows = next.knows;
-      holds = refl;
+      knows = r.knows;
+      holds = r.holds;
       keeps = record { root = r.keeps.root; place = r.keeps.place; dataset = r.keeps.dataset; header = r.keeps.header };
       index = r.index;
       marks = mark_laws.more s.dataset s.dataset.shape.rows (s.dataset.shape.rows + s.waits) (s.dataset.shape.rows + (s.waits + length values / s.dataset.shape.cols)) s.index (omega arith) r.marks;
@@ -137,6 +135,37 @@ values_stand s values log some rows idle by st =
 
 -- ---- A stop
 
+stop_running : (s : Session) (left : List Write) (log : Log) → Running s left log → Running (stopped_of s) left log
+stop_running s left log r = record {
+  after = r.after;
+  address = r.address;
+  held = r.held;
+  runs = r.runs;
+  rest = r.rest;
+  knows = r.knows;
+  holds = r.holds;
+  keeps = record { root = r.keeps.root; place = r.keeps.place; dataset = r.keeps.dataset; header = r.keeps.header };
+  index = r.index;
+  marks = r.marks;
+  early = r.early;
+  written = r.written;
+  some = r.some;
+  flushing = λ e. cc;
+  more = r.more;
+  waiting = r.waiting;
+  fit = r.fit;
+  count = r.count;
+  appended = r.appended;
+  committed = r.committed;
+  planned = λ some. absurd (some refl refl);
+  columns = r.columns;
+  past = past_same s (stopped_of s) left log r.after (record { name = refl; place = refl; dataset = refl; address = λ named. refl; limit = refl; own = λ o. o; reach = λ first img h. h; roomy = λ o. o }) refl r.past;
+}
+
+pub stop_as : (s : Session) (left : List Write) (log : Log) (r : Running s left log) → RunsAs (stopped_of s) left log r.after r.address r.held r.rest
+unfolding stop_running
+stop_as s left log r = record { running = stop_running s left log r; after = refl; address_is = refl; held_is = refl; rest_is = refl }
+
 pub stop_stands : (s : Session) (log : Log) → Stands s log → Stands (stopped_of s) log
 stop_stands s log st =
     record {
@@ -157,31 +186,7 @@ stop_stands s log st =
             flushed = c.1.flushed;
           },
         )
-        | inr r ↦ inr (record {
-          after = r.after;
-          address = r.address;
-          held = r.held;
-          runs = r.runs;
-          rest = r.rest;
-          knows = r.knows;
-          holds = r.holds;
-          keeps = record { root = r.keeps.root; place = r.keeps.place; dataset = r.keeps.dataset; header = r.keeps.header };
-          index = r.index;
-          marks = r.marks;
-          early = r.early;
-          written = r.written;
-          some = r.some;
-          flushing = λ e. cc;
-          more = r.more;
-          waiting = r.waiting;
-          fit = r.fit;
-          count = r.count;
-          appended = r.appended;
-          committed = r.committed;
-          planned = λ some. absurd (some refl refl);
-          columns = r.columns;
-          past = past_same s (stopped_of s) st.left log r.after (record { name = refl; place = refl; dataset = refl; address = λ named. refl; limit = refl; own = λ o. o; reach = λ first img h. h; roomy = λ o. o }) refl r.past;
-        })
+        | inr r ↦ inr (stop_running s st.left log r)
       ];
       prefixed = st.prefixed;
       still = st.still;
@@ -326,6 +331,15 @@ module _ (s : Session) (w : Write) (log : Log) (r : Running s (w ∷ []) log) wh
     past = past_shown s (with_pending s []) w [] log r.after r.held (record { name = refl; place = refl; dataset = refl; address = λ named. refl; limit = refl; own = λ o. o; reach = λ first img h. h; roomy = λ o. o }) refl r.runs r.past;
   }
 
+  -- so with what is known in the open
+  pub last_as : (t : Space) → s.flushing ≡ true → Freed s.keeps s.places t → RunsAs (settled s t) [] next r.after r.address r.held t
+  unfolding last_running
+  last_as t flushes freed = record { running = last_running t flushes freed; after = refl; address_is = refl; held_is = refl; rest_is = refl }
+
+  pub unplanned_as : s.committed ≡ s.dataset.shape.rows → RunsAs (with_pending s []) [] next r.after r.address r.held r.rest
+  unfolding last_unplanned
+  unplanned_as rows = record { running = last_unplanned rows; after = refl; address_is = refl; held_is = refl; rest_is = refl }
+
 picks : (b : Bool) (x y : List ℤ) → b ≡ true → (if b then x else y) ≡ x
 picks b x y e = rw e refl
 
@@ -362,6 +376,10 @@ more_running s w x xs log pending r =
       columns = r.columns;
       past = past_shown s (with_pending s (x ∷ xs)) w (x ∷ xs) log r.after r.held (record { name = refl; place = refl; dataset = refl; address = λ named. refl; limit = refl; own = λ o. o; reach = λ first img h. h; roomy = λ o. o }) refl r.runs r.past;
     }
+
+pub more_as : (s : Session) (w x : Write) (xs : List Write) (log : Log) (r : Running s (w ∷ x ∷ xs) log) → s.pending ≡ w ∷ x ∷ xs → RunsAs (with_pending s (x ∷ xs)) (x ∷ xs) (and_now (shows w) log) r.after r.address r.held r.rest
+unfolding more_running
+more_as s w x xs log r pending = record { running = more_running s w x xs log pending r; after = refl; address_is = refl; held_is = refl; rest_is = refl }
 
 -- ---- A close
 
@@ -452,6 +470,11 @@ flagged_running s log flags stop running reads swmr r =
       columns = r.columns;
       past = past_more s (flagged flags stop s) (flagged flags stop s).pending log m n (record { name = refl; place = refl; dataset = refl; address = λ named. refl; limit = refl; own = λ o. o; reach = λ first img h. h; roomy = λ o. o }) refl (omega (arith, length-super_bytes root, r.past.limit_low), tt) refl r.past;
     }
+
+pub flagged_as : (s : Session) (log : Log) (r : Running s [] log) (flags : ℕ) (stop : Bool) → s.stopped ≡ false → super_at (super_bytes (flagged_root flags s)) ≡ Ok (flagged_root flags s) → is_swmr (flagged_root flags s) ≡ true
+    → RunsAs (flagged flags stop s) (super_piece (flagged_root flags s) ∷ []) log (moved_to (flagged_root flags s) r.after) r.address r.held r.rest
+unfolding flagged_running
+flagged_as s log r flags stop running reads swmr = record { running = flagged_running s log flags stop running reads swmr r; after = refl; address_is = refl; held_is = refl; rest_is = refl }
 
 -- the superblock is written with other flags
 pub flagged_stands : (s : Session) (log : Log) (flags : ℕ) (stop : Bool) → super_at (super_bytes (flagged_root flags s)) ≡ Ok (flagged_root flags s) → is_swmr (flagged_root flags s) ≡ true → s.stopped ≡ false → s.pending ≡ [] → Stands s log

@@ -148,7 +148,7 @@ none_is k (x ∷ xs) off =
 
 module _ (name : List ℕ) (log : Log) (m : Moment) (rest base first b t : Space) (at : ℕ) (naming : Option ℕ) (u v w : Store) (ms : List Move) (rows : ℕ) (more : List ℤ) (writes : List Write) (places : List ChunkPlace) (added : List Key)
     (cs fixed supers ws : List Write) (c : AreFirstCalls (image_now log) m rest base first b at naming (an_array u) (an_array v) ms (an_array w) t rows more writes places added cs fixed supers ws) where
-  array_made : IsArrayMade m.dataset.layout.address base at u first
+  abbrev pub array_made : IsArrayMade m.dataset.layout.address base at u first
   array_made = c.made
 
   array_blank : starts.IsBlank u
@@ -208,59 +208,66 @@ module _ (name : List ℕ) (log : Log) (m : Moment) (rest base first b t : Space
       }
 
   -- where the layout names none, the dataset header names it
+  pub named_calls : m.dataset.layout.address ≡ undefined → TookTwo base at array_made.block first → AreStartCalls (image_now log) m rest b at array_made.block u v ms w t rows more writes places cs fixed supers
+  named_calls none two = record {
+    rises = c.rises;
+    small = c.small;
+    few = c.few;
+    count = c.count;
+    taken = c.taken (block_at at eahd_len ∷ block_at array_made.block eaib_len ∷ []) (two_taken base two.between first at array_made.block two.first two.second);
+    made = array_made.is_made;
+    names = names_chunks;
+    placed = λ copies. array_placed (starts_parts.parts_for m w rows more writes places copies supers t.end) refl refl refl refl refl;
+    plan = c.plan;
+    ended = c.ended;
+  }
+
+  pub named_pieces : m.dataset.layout.address ≡ undefined → ws ≡ writes ++ (cs ++ (fixed ++ (supers ++ commit_at (image_now log) m.place rows (Some (arrays.header_place w)) ∷ [])))
+  named_pieces none =
+      let is : naming ≡ Some (arrays.header_place w) = c.names.unnamed none in
+      all_before naming (arrays.header_place w) writes cs fixed supers (commit_at (image_now log) m.place rows naming) ws is c.pieces
+      ∙ ap (λ (o : Option ℕ). writes ++ (cs ++ (fixed ++ (supers ++ commit_at (image_now log) m.place rows o ∷ [])))) is
+
   array_named : m.dataset.layout.address ≡ undefined → TookTwo base at array_made.block first → (k : Knows (image_now log) name m no_chunk rest) → Runs name log [] m k.held → m.values ++ more ≡ appended log
       → AreFirstPending name log m naming (an_array w) t rows more ws
   array_named none two knows runs values =
       let is : naming ≡ Some (arrays.header_place w) = c.names.unnamed none in
       let known : StartKnows (image_now log) name m rest u = record { knows = knows; unnamed = record { kind = c.kind; address = none }; blank = array_blank } in
-      let tops : List Used = block_at at eahd_len ∷ block_at array_made.block eaib_len ∷ [] in
-      let top : Taken base tops first = two_taken base two.between first at array_made.block two.first two.second in
-      let calls : AreStartCalls (image_now log) m rest b at array_made.block u v ms w t rows more writes places cs fixed supers = record {
-        rises = c.rises;
-        small = c.small;
-        few = c.few;
-        count = c.count;
-        taken = c.taken tops top;
-        made = array_made.is_made;
-        names = names_chunks;
-        placed = λ copies. array_placed (starts_parts.parts_for m w rows more writes places copies supers t.end) refl refl refl refl refl;
-        plan = c.plan;
-        ended = c.ended;
-      } in
-      let pieces = all_before naming (arrays.header_place w) writes cs fixed supers (commit_at (image_now log) m.place rows naming) ws is c.pieces in
-      let named_pieces : ws ≡ writes ++ (cs ++ (fixed ++ (supers ++ commit_at (image_now log) m.place rows (Some (arrays.header_place w)) ∷ []))) =
-      pieces ∙ ap (λ (o : Option ℕ). writes ++ (cs ++ (fixed ++ (supers ++ commit_at (image_now log) m.place rows o ∷ [])))) is in
-      let p = start_pending name log m rest b t at array_made.block u u v w ms rows more writes places cs fixed supers ws known runs calls values named_pieces in
+      let p = start_pending name log m rest b t at array_made.block u u v w ms rows more writes places cs fixed supers ws known runs (named_calls none two) values (named_pieces none) in
       subst (λ (o : Option ℕ). AreFirstPending name log m o (an_array w) t rows more ws) (sym is) (as_index (Some (arrays.header_place w)) p)
 
   -- else its header, which is there, names its index block
-  array_block : m.dataset.layout.address ≢ undefined → at ≡ m.dataset.layout.address → Took base first (extent array_made.block eaib_len) → (k : Knows (image_now log) name m no_chunk rest) → Runs name log [] m k.held
-      → m.values ++ more ≡ appended log → AreFirstPending name log m naming (an_array w) t rows more ws
-  array_block named there took knows runs values =
+  pub alone_calls : at ≡ m.dataset.layout.address → Took base first (extent array_made.block eaib_len) → AreBlockCalls (image_now log) m rest b array_made.block u v ms w t rows more writes places cs fixed supers
+  alone_calls there took = record {
+    rises = c.rises;
+    small = c.small;
+    few = c.few;
+    count = c.count;
+    taken = c.taken (block_at array_made.block eaib_len ∷ []) (taken_laws.one base first (block_at array_made.block eaib_len) (omega arith) took);
+    made = subst (λ (n : ℕ). IsMade n array_made.block u) there array_made.is_made;
+    names = names_chunks;
+    placed = λ copies. array_placed (block_parts_for m w rows more writes places copies supers t.end) refl refl refl refl refl;
+    plan = c.plan;
+    ended = c.ended;
+  }
+
+  pub ordered_pieces : m.dataset.layout.address ≢ undefined → AreOrdered (image_now log) m rows writes cs fixed supers ws
+  ordered_pieces named =
       let is : naming ≡ None = c.names.named named in
-      let tops : List Used = block_at array_made.block eaib_len ∷ [] in
-      let top : Taken base tops first = taken_laws.one base first (block_at array_made.block eaib_len) (omega arith) took in
-      let calls : AreBlockCalls (image_now log) m rest b array_made.block u v ms w t rows more writes places cs fixed supers = record {
-        rises = c.rises;
-        small = c.small;
-        few = c.few;
-        count = c.count;
-        taken = c.taken tops top;
-        made = subst (λ (n : ℕ). IsMade n array_made.block u) there array_made.is_made;
-        names = names_chunks;
-        placed = λ copies. array_placed (block_parts_for m w rows more writes places copies supers t.end) refl refl refl refl refl;
-        plan = c.plan;
-        ended = c.ended;
-      } in
       let j = c.pieces in
-      let ordered : AreOrdered (image_now log) m rows writes cs fixed supers ws = record {
+      record {
         front = j.front;
         behind = j.behind;
         cut = j.cut;
         one = j.named is;
         all = j.all ∙ ap (λ (o : Option ℕ). writes ++ (cs ++ (j.front ++ (supers ++ (j.behind ++ commit_at (image_now log) m.place rows o ∷ []))))) is;
-      } in
-      let p = block_pending name log m rest b t array_made.block u v w ms rows more writes places cs fixed supers ws (record { knows = knows; alone = c.alone named }) runs calls values ordered in
+      }
+
+  array_block : m.dataset.layout.address ≢ undefined → at ≡ m.dataset.layout.address → Took base first (extent array_made.block eaib_len) → (k : Knows (image_now log) name m no_chunk rest) → Runs name log [] m k.held
+      → m.values ++ more ≡ appended log → AreFirstPending name log m naming (an_array w) t rows more ws
+  array_block named there took knows runs values =
+      let is : naming ≡ None = c.names.named named in
+      let p = block_pending name log m rest b t array_made.block u v w ms rows more writes places cs fixed supers ws (record { knows = knows; alone = c.alone named }) runs (alone_calls there took) values (ordered_pieces named) in
       subst (λ (o : Option ℕ). AreFirstPending name log m o (an_array w) t rows more ws) (sym is) (as_index None p)
 
   array_pending : (k : Knows (image_now log) name m no_chunk rest) → Runs name log [] m k.held → m.values ++ more ≡ appended log → AreFirstPending name log m naming (an_array w) t rows more ws
@@ -274,13 +281,13 @@ module _ (name : List ℕ) (log : Log) (m : Moment) (rest base first b t : Space
 
 module _ (name : List ℕ) (log : Log) (m : Moment) (rest base first b t : Space) (at p : ℕ) (naming : Option ℕ) (v w : Index) (ms : List Move) (rows : ℕ) (more : List ℤ) (writes : List Write) (places : List ChunkPlace) (added : List Key)
     (cs fixed supers ws : List Write) (c : AreFirstCalls (image_now log) m rest base first b at naming (a_tree p no_tree) (a_tree p v) ms (a_tree p w) t rows more writes places added cs fixed supers ws) where
-  tree_made : IsTreeMade m.dataset.layout.address base at p no_tree first
+  abbrev pub tree_made : IsTreeMade m.dataset.layout.address base at p no_tree first
   tree_made = c.made
 
   tree_none : ◌≡◌ {A = Key → ℕ} (λ key. address_in (a_tree p no_tree) key) no_chunk
   tree_none = λ i key. made_none m.dataset.layout.address base at (a_tree p no_tree) first c.made key i
 
-  tree_calls : AreTreeStartCalls (image_now log) m rest b p v ms w t rows more writes places added cs fixed supers
+  pub tree_calls : AreTreeStartCalls (image_now log) m rest b p v ms w t rows more writes places added cs fixed supers
   tree_calls = record {
     rises = c.rises;
     small = c.small;
@@ -304,16 +311,19 @@ module _ (name : List ℕ) (log : Log) (m : Moment) (rest base first b t : Space
     ended = c.ended;
   }
 
+  pub tree_pieces : ws ≡ writes ++ (cs ++ (fixed ++ (supers ++ commit_at (image_now log) m.place rows (Some p) ∷ [])))
+  tree_pieces =
+      let is : naming ≡ Some p = c.names.unnamed tree_made.unnamed in
+      all_before naming p writes cs fixed supers (commit_at (image_now log) m.place rows naming) ws is c.pieces ∙ ap (λ (o : Option ℕ). writes ++ (cs ++ (fixed ++ (supers ++ commit_at (image_now log) m.place rows o ∷ [])))) is
+
   tree_pending : (k : Knows (image_now log) name m no_chunk rest) → Runs name log [] m k.held → m.values ++ more ≡ appended log → AreFirstPending name log m naming (a_tree p w) t rows more ws
   tree_pending knows runs values =
       let now : List ℕ = image_now log in
       let known : TreeStartKnows now name m rest = record { knows = knows; unnamed = record { kind = c.kind; address = tree_made.unnamed } } in
       let is : naming ≡ Some p = c.names.unnamed tree_made.unnamed in
-      let pieces : ws ≡ writes ++ (cs ++ (fixed ++ (supers ++ commit_at now m.place rows (Some p) ∷ []))) =
-      all_before naming p writes cs fixed supers (commit_at now m.place rows naming) ws is c.pieces ∙ ap (λ (o : Option ℕ). writes ++ (cs ++ (fixed ++ (supers ++ commit_at now m.place rows o ∷ [])))) is in
       let calls = tree_start_calls now m rest b t p v w ms rows more writes places added cs fixed supers tree_calls in
       let f : Parts = tree_starts.parts_for m p w rows more writes places calls.copies supers t.end in
-      let same : pieces_of now m f ≡ ws = calls.pieces ∙ sym pieces in
+      let same : pieces_of now m f ≡ ws = calls.pieces ∙ sym tree_pieces in
       let over = tree_start_runs name log m rest b t p v w ms rows more writes places calls.copies fixed supers known runs calls.start values in
       let leads = tree_start_leads now name m rest b t p v w ms rows more writes places calls.copies fixed supers known calls.start in
       let after : Moment = first_named m (Some p) (a_tree p w) rows more t.end in

@@ -1,9 +1,10 @@
 -- By how much a first flush raises the end of the file, and the session after it stands over the log; and where there is no place for it.
-use Rattle.std.proofs.Common.{◌≡◌, ◌⊎◌, ℕ, ◌+◌, ◌<◌, ◌≤◌, true, false, [], ◌++◌, length, refl, sym, ap, ◌∙◌, subst, inl, inr, arith}
+use Rattle.std.proofs.Common.{◌≡◌, ◌⊎◌, ℕ, ◌+◌, ◌<◌, ◌≤◌, true, false, List, [], ◌++◌, length, refl, sym, ap, ◌∙◌, subst, inl, inr, arith}
 use Rattle.h5w_model.specs.Arrays.{eahd_len, eaib_len}
 use Rattle.h5w_model.specs.Trees.{bthd_len}
 use Rattle.h5w_model.specs.Datasets.{Described}
-use Rattle.h5w_model.specs.Findings.{the_superblock}
+use Rattle.h5w_model.specs.Findings.{Used, the_superblock}
+use Rattle.h5w_model.specs.declared.cell.Key.{Key}
 use Rattle.h5w_model.specs.Numbers.{undefined}
 use Rattle.h5w_model.specs.Tables.{keys_across}
 use Rattle.h5w_model.specs.Logs.{Log, and_now, load, plans}
@@ -15,10 +16,12 @@ use Rattle.h5w_chunks.specs.Early.{RowsStand}
 use Rattle.h5w_chunks.specs.Grids.{cells_of}
 use Rattle.h5w_chunks.specs.Rows.{ChunksApart}
 use Rattle.h5w_header_laws.specs.Files.{with_index}
+use Rattle.h5w_steps.specs.Moments.{Moment}
 use Rattle.h5w_steps.specs.Logs.{image_now}
+use Rattle.h5w_flush_laws.specs.Parts.{IsFlush, flushed_to}
 use Rattle.h5w_flush_laws.specs.Spaces.{extent_of}
 use Rattle.h5w_bt_index.specs.Index.{Index}
-use Rattle.h5w_index.specs.Views.{IndexView, IsClean, an_array, a_tree, kind_of}
+use Rattle.h5w_index.specs.Views.{IndexView, IsClean, an_array, a_tree, address_in, kind_of}
 use Rattle.h5w_index.specs.Marks.{IsMarked, IsRaised}
 use Rattle.h5w_index.specs.Blocks.{has_no_block}
 use Rattle.h5w_index.specs.Full.{most_of}
@@ -29,6 +32,7 @@ use Rattle.h5w_creation_laws.specs.CreatedFiles.{index_len}
 use Rattle.h5w_creation_laws.proofs.SizeLemmas.{index_lens}
 use Rattle.h5w_session.specs.Sessions.{AllEndBy, IsRoomy, IsUnmade, Session, cutting_of, most_lines, rows_of, with_rows}
 use Rattle.h5w_session.specs.Loads.{NoPlace}
+use Rattle.h5w_session.specs.PartLaws.{HasNoPlace, IsPartFlushed, RunsAs}
 use Rattle.h5w_session.specs.Past.{IsMadeHere, IsNew, Past}
 use Rattle.h5w_session.specs.Refusals.{IsFullFor, IsUnfilled, IsUnplaced, no_block, no_header}
 use Rattle.h5w_session.specs.Stands.{Running, Stands}
@@ -41,7 +45,7 @@ use Rattle.h5w_session.proofs.LoadLemmas.{at_most, counted, flush_bound, flush_c
 use Rattle.h5w_session.proofs.PastLemmas.{IsLike, new_named, past_planned}
 use Rattle.h5w_session.proofs.PlannedRows.{planned_stand}
 use Rattle.h5w_session.proofs.ReachedLemmas.{any_reached}
-use Rattle.h5w_session.proofs.StartedLemmas.{after_start, start_running}
+use Rattle.h5w_session.proofs.StartedLemmas.{after_start, none_then, start_as, start_running, started_parts}
 use Rattle.h5w_session.proofs.StartingLemmas.{lengths_first}
 
 like_started : (old new : Session) (x : IsStartFlushed old new) → new.places.limit ≡ old.places.limit → (IsMadeHere old.index → IsMadeHere new.index) → (IsRoomy old.dataset old.index → IsRoomy old.dataset new.index) → IsLike old new
@@ -117,7 +121,8 @@ module _ (old new : Session) (log : Log) (x : IsStartFlushed old new) (running :
     columns = r.columns;
   }
 
-  stand : ChunksApart old.dataset x.planned.chunks → RowsStand (image_now log) old.dataset (cells_of old.dataset (r.early ++ r.more)) old.dataset.shape.rows (rows_of old) x.planned.chunks x.planned.rows
+  stand : ChunksApart old.dataset x.planned.chunks → RowsStand (image_now log) old.dataset (cells_of old.dataset (before.early ++ before.more)) old.dataset.shape.rows (rows_of old) x.planned.chunks x.planned.rows
+  unfolding before
   stand =
       planned_stand (image_now log) old x.made x.first new.index new.places x.planned r.address r.rest r.early r.more r.written r.some r.waiting r.fit r.count (counted old r.past.counted).cut
 
@@ -126,24 +131,50 @@ module _ (old new : Session) (log : Log) (x : IsStartFlushed old new) (running :
   not_new new_log (inl none) = new_named old [] log r.after new_log r.past none
   not_new new_log (inr lacking) = never (has_no_block old.index) lacking (r.past.own new_log).1
 
-  carries : AllEndBy new.places.end new.pending → Stands new (and_now (plans (length new.pending)) log)
-  unfolding before
-  carries within =
-      let next = and_now (plans (length new.pending)) log in
-      let m = after_start old new log x before stand in
-      let s = started_of old x.at x.naming new.places new.pending new.index in
-      let address = old.dataset.layout.address in
+  past_started : AllEndBy new.places.end new.pending → Past new new.pending (and_now (plans (length new.pending)) log) (after_start old new log x before stand)
+  past_started within =
       let blocks = (told_of old x.made x.first new.index new.places x.planned).stay ∙ x.planned.names.partly.like.fixed in
+      let address = old.dataset.layout.address in
       let own : IsMadeHere new.index = (
         planned_own old x.made x.first new.index new.places x.planned x.start.own,
         same_block x.made new.index blocks ∙ made_whole address old.places x.at x.made x.first x.start.made (r.written.taken.taken.stays_live (extent_of the_superblock) (r.knows.live the_superblock (inl refl))),
       ) in
       let roomy : IsRoomy old.dataset new.index = planned_roomy old x.made x.first new.index new.places x.planned (made_roomy old.dataset old.dataset.layout.address old.places x.at x.made x.first x.start.made) in
-      let past : Past new new.pending next m =
-      past_planned old new (length new.pending) new.pending log r.after m (like_started old new x start_raised.limit (λ o. own) (λ o. roomy)) start_raised within (λ new_log. absurd (not_new new_log x.unmade)) r.past in
-      let running : Running s new.pending next = start_running old new log x before stand (subst (λ (t : Session). Past t new.pending next m) x.session past) in
+      past_planned old new (length new.pending) new.pending log r.after (after_start old new log x before stand) (like_started old new x start_raised.limit (λ o. own) (λ o. roomy)) start_raised within (λ new_log. absurd (not_new new_log x.unmade))
+      r.past
+
+  -- the same of the session as the relation says it
+  own_past : AllEndBy new.places.end new.pending → Past (started_of old x.at x.naming new.places new.pending new.index) new.pending (and_now (plans (length new.pending)) log) (after_start old new log x before stand)
+  own_past within = subst (λ (t : Session). Past t new.pending (and_now (plans (length new.pending)) log) (after_start old new log x before stand)) x.session (past_started within)
+
+  carries : AllEndBy new.places.end new.pending → Stands new (and_now (plans (length new.pending)) log)
+  carries within =
+      let next = and_now (plans (length new.pending)) log in
+      let running : Running (started_of old x.at x.naming new.places new.pending new.index) new.pending next = start_running old new log x before stand (own_past within) in
       let goes = running.runs.goes in
       subst (λ (t : Session). Stands t next) (sym x.session) (record { left = new.pending; dropped = inl refl; phase = inr running; prefixed = goes.prefixed; still = goes.still })
+
+  pub part_started : AllEndBy new.places.end new.pending → IsPartFlushed old new log r
+  unfolding before
+  part_started within =
+      let next = and_now (plans (length new.pending)) log in
+      let s = started_of old x.at x.naming new.places new.pending new.index in
+      let m = after_start old new log x before stand in
+      let f = started_parts old new log x before stand in
+      let runs : RunsAs s new.pending next m (λ key. address_in new.index key) m.behind new.places = start_as old new log x before stand (own_past within) in
+      let moved : RunsAs s new.pending next (flushed_to r.after f.parts) (λ key. address_in new.index key) m.behind new.places =
+      subst (λ (n : Moment). RunsAs s new.pending next n (λ key. address_in new.index key) m.behind new.places) (sym f.leads) runs in
+      let mapped : RunsAs s new.pending next (flushed_to r.after f.parts) f.parts.address m.behind new.places =
+      subst (λ (a : Key → ℕ). RunsAs s new.pending next (flushed_to r.after f.parts) a m.behind new.places) (sym f.address) moved in
+      subst (λ (t : Session). IsPartFlushed old t log r) (sym x.session) (record {
+        parts = f.parts;
+        flush = subst (λ (a : Key → ℕ). IsFlush (image_now log) r.after a r.rest f.parts new.places) (sym (none_then old new log x before stand)) f.flush;
+        missed = f.missed;
+        pieces = f.pieces;
+        runs = subst (λ (us : List Used). RunsAs s new.pending next (flushed_to r.after f.parts) f.parts.address us new.places) (sym f.behind) mapped;
+        few = pieces_few;
+        raised = start_raised;
+      })
 
 -- ---- A flush of rows that wait
 
@@ -162,26 +193,29 @@ module _ (s : Session) (log : Log) (running : s.stopped ≡ false) (idle : s.pen
   low : (n : ℕ) → n ≤ 1000 → n ≤ load (cutting_of s) log
   low n few = at_most n (1000 + most_of s.dataset (rows_of s)) (load (cutting_of s) log) (omega (arith, few)) (load_is s log running idle st)
 
-  unplaced : (k : IndexKind) → IsUnplaced k s.dataset.layout.address s.places full → NoPlace s log full
+  unplaced : (k : IndexKind) → IsUnplaced k s.dataset.layout.address s.places full → HasNoPlace s log full
   unplaced Array (no_block refused) =
-      let r = idle_running s log running idle st in
-      refused_bound s log s.places 0 eaib_len full waits r.past.grew (raised_none s.places s.places refl refl) (low 0 (omega arith)) refused (omega arith) (low eaib_len (omega arith))
+      refused_bound s log s.places 0 eaib_len full (raised_none s.places s.places refl refl) (low 0 (omega arith)) refused (omega arith) (low eaib_len (omega arith))
   unplaced Array (no_header block a none took raised refused) =
-      let r = idle_running s log running idle st in
-      refused_bound s log a eaib_len eahd_len full waits r.past.grew raised (low eaib_len (omega arith)) refused (omega arith) (low eahd_len (omega arith))
+      refused_bound s log a eaib_len eahd_len full raised (low eaib_len (omega arith)) refused (omega arith) (low eahd_len (omega arith))
   unplaced Tree refused =
-      let r = idle_running s log running idle st in
-      refused_bound s log s.places 0 bthd_len full waits r.past.grew (raised_none s.places s.places refl refl) (low 0 (omega arith)) refused (omega arith) (low bthd_len (omega arith))
+      refused_bound s log s.places 0 bthd_len full (raised_none s.places s.places refl refl) (low 0 (omega arith)) refused (omega arith) (low bthd_len (omega arith))
 
-  unfilled : IsUnfilled s full → NoPlace s log full
+  unfilled : IsUnfilled s full → HasNoPlace s log full
   unfilled x =
       let d = s.dataset in
       let few : index_len (kind_of x.made) ≤ 370 = index_lens (kind_of x.made) in
       part_no_place s log running idle st waits full x.made (mark_laws.clean d d.shape.rows (rows_of s) x.made (made_clean s.dataset.layout.address s.places x.at x.made x.first x.start.made)) x.first (index_len (kind_of x.made)) (omega (arith, few)) x.start.raised
       x.none
 
-  pub full_no_place : IsFullFor s full → NoPlace s log full
-  full_no_place (inl there) =
+  pub full_bounded : IsFullFor s full → HasNoPlace s log full
+  full_bounded (inl there) =
       let r = idle_running s log running idle st in
       part_no_place s log running idle st waits full s.index r.marks s.places 0 (omega arith) (raised_none s.places s.places refl refl) there.1
-  full_no_place (inr starts) = elim starts.1 [ inl none ↦ unplaced s.dataset.layout.index none | inr few ↦ unfilled few ]
+  full_bounded (inr starts) = elim starts.1 [ inl none ↦ unplaced s.dataset.layout.index none | inr few ↦ unfilled few ]
+
+  pub full_no_place : IsFullFor s full → NoPlace s log full
+  full_no_place x =
+      let b = full_bounded x in
+      let r = idle_running s log running idle st in
+      record { waits = waits; some = b.some; limit = b.limit; past = b.past; size_bound = b.size_bound; at_bound = omega (arith, b.at_bound, r.past.grew) }

@@ -39,6 +39,7 @@ use Rattle.h5w_index.specs.Flushes.{PlanTold}
 use Rattle.h5w_index.specs.Naming.{AreNamed, AreTaken, AreTakenBehind}
 use Rattle.h5w_index.proofs.MarkLemmas.{mark_laws}
 use Rattle.h5w_session.specs.Sessions.{Session, rows_of, with_rows}
+use Rattle.h5w_session.specs.PartLaws.{RunsAs}
 use Rattle.h5w_session.specs.Past.{Past}
 use Rattle.h5w_session.specs.Stands.{Running}
 use Rattle.h5w_pieces.specs.Joined.{AreJoined, IsNaming}
@@ -51,6 +52,7 @@ use Rattle.h5w_session.proofs.EarlyLemmas.{nothing_early}
 use Rattle.h5w_session.proofs.StartingLemmas.{lengths_first}
 use Rattle.h5w_session.proofs.StartPlaces.{first_apart, made_tops, taken_between}
 use Rattle.h5w_session.proofs.FlushLemmas.{each_fits, others_then, placed_then, told_of}
+use Rattle.h5w_session.proofs.StartParts.{HasFirstParts, first_parts}
 use Rattle.h5w_session.proofs.StartKinds.{AreFirstCalls, AreFirstPending, blank_none, first_named, first_pending, made_none}
 
 all_rows : (a b cols : ℕ) → (a + b) * cols ≡ a * cols + b * cols
@@ -74,7 +76,7 @@ module _ (old new : Session) (log : Log) (x : IsStartFlushed old new) (r : Start
   abbrev all_values : List ℤ
   all_values = r.early ++ r.more
 
-  none_then : r.address ≡ no_chunk
+  pub none_then : r.address ≡ no_chunk
   none_then = λ i key. (r.index.map key ∙ blank_none old.index r.index.blank key) i
 
   none_made : ◌≡◌ {A = Key → ℕ} (λ key. address_in x.made key) no_chunk
@@ -187,6 +189,12 @@ module _ (old new : Session) (log : Log) (x : IsStartFlushed old new) (r : Start
       first_pending old.name log r.after r.rest old.places x.first x.planned.between new.places x.at x.naming x.made x.planned.named new.index x.planned.moves (rows_of old) all_values x.planned.rows x.planned.chunks
       x.planned.added x.planned.copies x.planned.fixed x.planned.supers new.pending known.knows known_runs r.appended calls
 
+  -- so in the words of h5w_flush_laws
+  pub started_parts : HasFirstParts (image_now log) r.after r.rest x.naming new.index new.places (rows_of old) all_values new.pending
+  started_parts =
+      first_parts old.name log r.after r.rest old.places x.first x.planned.between new.places x.at x.naming x.made x.planned.named new.index x.planned.moves (rows_of old) all_values x.planned.rows x.planned.chunks
+      x.planned.added x.planned.copies x.planned.fixed x.planned.supers new.pending known.knows calls
+
   -- ---- The session after it
 
   abbrev pub after_start : Moment
@@ -246,3 +254,8 @@ module _ (old new : Session) (log : Log) (x : IsStartFlushed old new) (r : Start
     columns = r.columns;
     past = past;
   }
+
+  pub start_as : Past (started_of old x.at x.naming new.places new.pending new.index) new.pending (and_now (plans (length new.pending)) log) after_start
+      → RunsAs (started_of old x.at x.naming new.places new.pending new.index) new.pending (and_now (plans (length new.pending)) log) after_start (λ key. address_in new.index key) after_start.behind new.places
+  unfolding start_running
+  start_as past = record { running = start_running past; after = refl; address_is = refl; held_is = refl; rest_is = refl }

@@ -169,7 +169,7 @@ none_pending : (ws : List Write) → nat_lt 0 (length ws) ≡ false → ws ≡ [
 none_pending [] e = refl
 none_pending (w ∷ ws) e = let clash : true ≡ false = sym (lt-ltb 0 (length (w ∷ ws)) (omega arith)) ∙ e in cc
 
-accepted_by : (s : Session) (values : List ℤ) → append_refusal s values ≡ None → Accepted s values
+pub accepted_by : (s : Session) (values : List ℤ) → append_refusal s values ≡ None → Accepted s values
 accepted_by s values none =
     let more = length values / s.dataset.shape.cols in
     let by = none_applies s.stopped (nat_lt 0 (length s.pending)) (length s.pending) (first_outside s.dataset.int_type 0 values) (chunks_refusal s more) none in

@@ -17,6 +17,7 @@ use Rattle.h5w_flush_laws.specs.Knowledge.{KnownHeld}
 use Rattle.h5w_session.specs.Early.{HasEarly}
 use Rattle.h5w_session.specs.Indexes.{IsKeptIndex}
 use Rattle.h5w_session.specs.Loads.{first_end_of}
+use Rattle.h5w_session.specs.PartLaws.{RunsAs}
 use Rattle.h5w_session.specs.Past.{Past, most_of}
 use Rattle.h5w_model.specs.declared.cell.Key.{Key}
 use Rattle.h5w_index.specs.Held.{view_of}
@@ -186,6 +187,10 @@ module _ (s : Session) (log : Log) (r : Running s [] log) (ws : List Write) (roo
         columns = r.columns;
         past = told_all.past;
       }
+
+  pub told_as : RunsAs (told_of s root t) [] (told_log (suc t.end) ws log) last r.address r.held x.rest
+  unfolding told_running
+  told_as = record { running = told_running; after = refl; address_is = refl; held_is = refl; rest_is = refl }
 
   pub told_stands : s.pending ≡ [] → (n : ℕ) × Stands (told_of s root t) (told_log n ws log)
   told_stands idle =

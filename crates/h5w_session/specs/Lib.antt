@@ -24,6 +24,8 @@ pub mod Past
 pub mod Stands
 pub mod PartOf
 pub mod Told
+pub mod PartLaws
+pub mod Lent
 pub mod Openings
 pub mod Flushes
 pub mod Starts

@@ -273,7 +273,7 @@ impl WriterCore {
 
     /// Up to which row rows are written early, so that what waits behind them is within the budget: the first of a band, or behind all. None
     /// where all that waits is within it.
-    fn early_row(&self) -> Option<u64>
+    pub(crate) fn early_row(&self) -> Option<u64>
         ensures row { IfSome result (IsEarlyRow self.now) }
         ensures none { IfNone result (dirty_of self.now ≤ self.now.budget) }
     {

@@ -1,19 +1,21 @@
 //! The flush of a session in two halves: all memory and all places are taken before anything changes.
-ghost use Rattle.std.specs.Prelude.{◌≡◌, ◌≢◌, ◌⊎◌, ◌+◌, ◌<◌, ◌≤◌, [], length, IfOk, IfErr, IfSome, IsOk, IsSome, MatchOption, OnOk, OnErr, Some, Ok, Err};
+ghost use Rattle.std.specs.Prelude.{◌≡◌, ◌≢◌, ◌⊎◌, ◌+◌, ◌<◌, ◌≤◌, [], ◌∷◌, length, IfOk, IfErr, IfSome, IsOk, IsSome, MatchOption, OnOk, OnErr, Some, Ok, Err};
 ghost use Rattle.h5w_model.specs.Causes.{Rose};
 ghost use Rattle.h5w_model.specs.Headers.{index_in_header, messages_at, rows_in_header, with_rows_bytes};
 ghost use Rattle.h5w_model.specs.Logs.{Log, and_now, load, plans};
 ghost use Rattle.h5w_flush_laws.specs.Parts.{AreEnded};
 ghost use Rattle.h5w_image.specs.View.{Same};
 ghost use Rattle.h5w_space.specs.declared.Full.{Full};
-ghost use Rattle.h5w_session.specs.Flushes.{IsFlushed, SameBut};
+ghost use Rattle.h5w_index.specs.Placing.{IsPlacing};
+ghost use Rattle.h5w_index.specs.Steps.{IsPlan};
+ghost use Rattle.h5w_session.specs.Flushes.{IsFlushed, SameBut, touched_by};
 ghost use Rattle.h5w_session.specs.Loads.{NoPlace};
 ghost use Rattle.h5w_pieces.specs.Joined.{option_list};
 ghost use Rattle.h5w_session.specs.Starts.{HasFlushed, IsStartFlushed};
 ghost use Rattle.h5w_session.specs.Refusals.{IsDeepFor, IsFullFor, IsSpace, flush_refusal};
 ghost use Rattle.h5w_session.specs.Room.{HasRoomFor};
 ghost use Rattle.h5w_session.specs.Past.{IsNew};
-ghost use Rattle.h5w_session.specs.Sessions.{AllEndBy, AreReached, TakesRows, cutting_of, Session};
+ghost use Rattle.h5w_session.specs.Sessions.{AllEndBy, AreReached, IsWhole, TakesRows, cutting_of, rows_of, Session};
 ghost use Rattle.h5w_session.specs.Stands.{Stands};
 ghost use Rattle.h5w_session.specs.declared.refusal.FlushError.{FlushError};
 ghost use Rattle.h5w_session.specs.Halves.{HasGrown, IsHalf, PlansAlone, PlansGrowth, PlansStart, WasHalf, end_of, most_of, places_of};
@@ -22,10 +24,11 @@ use crate::planned::{Growing, Planned, Prepared, Starting};
 use crate::refusal::FlushError;
 use crate::state::WriterCore;
 use crate::taking::unset;
+use h5w_chunks::ChunkPlace;
 use h5w_image::PieceWrite;
 use h5w_model::{OutOfMemory, PIECE, Piece, Super, Write};
 use h5w_ohdr::with_rows;
-use h5w_pieces::{end_with, join, join_first, naming};
+use h5w_pieces::{end_at, join, join_first, naming};
 
 /// Makes room in the image for the pieces of the rows, for so many behind them, and for one more, up to this end.
 fn make_room<W: PieceWrite>(
@@ -64,8 +67,23 @@ fn raise(root: &mut Super, end: u64) -> Option<Write>
     })
 }
 
-/// A dataset's header gets another number of rows, and the address of its index where one is given; and the piece that writes it at its place.
+/// A dataset's header gets another number of rows, and the address of its index where one is given.
 #[inline(always)]
+fn change_rows(header: &mut Piece, rows: u64, index: Option<u64>)
+    requires read { IsOk (messages_at header.old) }
+    requires rows { IsSome (rows_in_header header.old) }
+    requires index { IsSome index → IsSome (index_in_header header.old) }
+    ensures header { header.new ≡ with_rows_bytes header.old rows index }
+    ensures short { length header.old ≤ 512 }
+{
+    let mut bytes = [0; PIECE];
+    let chunk = &mut bytes[..header.len()];
+    chunk.copy_from_slice(header.as_slice());
+    with_rows(chunk, rows, index);
+    header.set(chunk);
+}
+
+/// The same, and the piece that writes the header at its place.
 fn raise_rows(header: &mut Piece, at: u64, rows: u64, index: Option<u64>) -> Write
     requires read { IsOk (messages_at header.old) }
     requires rows { IsSome (rows_in_header header.old) }
@@ -74,14 +92,10 @@ fn raise_rows(header: &mut Piece, at: u64, rows: u64, index: Option<u64>) -> Wri
     ensures write { result ≡ record { at = at; piece = header.new } }
     ensures short { length header.old ≤ 512 }
 {
-    let mut bytes = [0; PIECE];
-    let chunk = &mut bytes[..header.len()];
-    chunk.copy_from_slice(header.as_slice());
-    with_rows(chunk, rows, index);
-    header.set(chunk);
+    change_rows(header, rows, index);
     Write {
         at,
-        piece: Piece::of(chunk),
+        piece: Piece::of(header.as_slice()),
     }
 }
 
@@ -145,8 +159,59 @@ impl WriterCore {
         Ok(())
     }
 
-    /// Plans the pieces that make the rows that wait visible: in two halves, of which the second cannot fail.
+    /// Plans the pieces that make the rows that wait visible.
     fn flush_rows<W: PieceWrite>(&mut self, image: &mut W) -> Result<u64, FlushError>
+        requires waits { 0 < self.old.waits }
+        requires idle { self.old.pending ≡ [] }
+        ensures flushed { OnOk result (HasFlushed self.old self.new) }
+        ensures pieces { IfOk result (λ pieces. pieces ≡ length self.new.pending) }
+        ensures ends { OnOk result (AllEndBy self.new.places.end self.new.pending) }
+        ensures kept { OnErr result (SameBut self.old self.new) }
+        ensures full { (full : Full) → result ≡ Err (FlushError.Space full) → IsFullFor self.old full }
+        ensures deep { result ≡ Err FlushError.Deep → IsDeepFor self.old }
+        ensures causes { IfErr result (λ e. IsSpace e ⊎ ((e ≡ FlushError.Deep) ⊎ ((e ≡ FlushError.Failed) ⊎ (e ≡ FlushError.OutOfMemory)))) }
+        ensures fault { result ≡ Err FlushError.Failed → Rose (W.view image.old).faults (W.view image.new).faults }
+        ensures image { Same (W.view image.old) (W.view image.new) }
+        ensures room { OnOk result (HasRoomFor self.new (W.view image.new)) }
+    {
+        if !self.is_unmade() {
+            if let Some(place) = self.chunk_alone() {
+                return self.flush_alone(place, image);
+            }
+        }
+        self.flush_planned(image)
+    }
+
+    /// Plans the pieces of the rows that wait, which all go into this chunk, in short for both halves.
+    fn flush_alone<W: PieceWrite>(
+        &mut self,
+        place: ChunkPlace,
+        image: &mut W,
+    ) -> Result<u64, FlushError>
+        requires waits { 0 < self.old.waits }
+        requires there { IsWhole self.old }
+        requires early { self.old.early ≡ 0 }
+        requires placing { IsPlacing self.old.dataset (rows_of self.old) self.old.index self.old.places (place ∷ []) [] self.old.index self.old.places }
+        requires all { touched_by self.old ≡ 1 }
+        requires plan { IsPlan self.old.index self.old.places [] [] [] self.old.index self.old.places }
+        ensures flushed { OnOk result (IsFlushed self.old self.new) }
+        ensures pieces { IfOk result (λ pieces. pieces ≡ length self.new.pending) }
+        ensures ends { OnOk result (AllEndBy self.new.places.end self.new.pending) }
+        ensures kept { OnErr result (self.new ≡ self.old) }
+        ensures causes { IfErr result (λ e. (e ≡ FlushError.Failed) ⊎ (e ≡ FlushError.OutOfMemory)) }
+        ensures fault { result ≡ Err FlushError.Failed → Rose (W.view image.old).faults (W.view image.new).faults }
+        ensures image { Same (W.view image.old) (W.view image.new) }
+        ensures room { OnOk result (HasRoomFor self.new (W.view image.new)) }
+    {
+        let writes = self.plan_alone(place)?;
+        make_room(writes.len(), 2, self.places.end(), image)?;
+        Ok(self.carry_alone(writes))
+    }
+
+    /// Plans the pieces of the rows that wait in two halves, of which the second cannot fail. Not inlined, so that a flush into one chunk makes no
+    /// room for what this one plans.
+    #[inline(never)]
+    fn flush_planned<W: PieceWrite>(&mut self, image: &mut W) -> Result<u64, FlushError>
         requires waits { 0 < self.old.waits }
         requires idle { self.old.pending ≡ [] }
         ensures flushed { OnOk result (HasFlushed self.old self.new) }
@@ -218,10 +283,10 @@ impl WriterCore {
         ensures places { self.new.places ≡ self.old.places }
     {
         let to = self.rows();
-        let superblock = raise(&mut self.root, self.places.end());
-        let header = raise_rows(&mut self.header, self.place, to, None);
+        change_rows(&mut self.header, to, None);
         self.grid.shape.rows = to;
-        let pieces = end_with(writes, superblock, header);
+        let superblock = raise(&mut self.root, self.places.end());
+        let pieces = end_at(writes, superblock, self.place, &self.header);
         self.backlog.commit_plan(pieces)
     }
 

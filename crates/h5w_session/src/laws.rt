@@ -2,7 +2,6 @@
 
 ghost use Rattle.h5w_session.specs.Laws.{RoomStays, ShownLaws, StandingLaws};
 ghost use Rattle.h5w_session.specs.Openings.{OverLaws};
-ghost use Rattle.h5w_session.specs.Told.{ToldLaws};
 
 /// A session's log is new, or began over a valid file; its columns are the dataset's. The session knows how many rows are flushed and
 /// appended; at each position of its log the image is valid and reads as the rows that are flushed there, and what readers
@@ -32,12 +31,4 @@ pub fn room_stays()
 #[tactic(auto, using(crate::proofs::OpenedLemmas::over_laws))]
 pub fn over_laws()
     ensures { OverLaws }
-{}
-
-/// A session at rest that is told of pieces of other datasets, which are a plan for its own, stands for its log with these pieces; the halves
-/// of a flush stay so over another superblock; and a flush into an index that is there is one as h5w_flush_laws has it, of the file that the
-/// session knows.
-#[tactic(auto, using(crate::proofs::ToldLemmas::told_laws))]
-pub fn told_laws()
-    ensures { ToldLaws }
 {}

@@ -270,7 +270,7 @@ impl WriterCore {
     }
 
     /// Whether something of the index is not there: the layout names none, or it is an array without an index block.
-    fn is_unmade(&self) -> bool
+    pub fn is_unmade(&self) -> bool
         ensures yes { IsTrue result → IsUnmade self.now }
         ensures no { IsFalse result → IsWhole self.now }
         ensures session { IsSession self.now }
@@ -283,7 +283,7 @@ impl WriterCore {
 
     /// The chunk that has its place, where readers look for it, and that all rows that wait go into; where no block of the index changed, and
     /// no row was written early.
-    fn chunk_alone(&self) -> Option<ChunkPlace>
+    pub(crate) fn chunk_alone(&self) -> Option<ChunkPlace>
         requires waits { 0 < self.now.waits }
         ensures exact { IfSome result (λ p. p ≡ first_place self.now.dataset self.now.index) }
         ensures none { IfNone result (self.now.early ≡ 0 → IsClean self.now.index → touched_by self.now ≡ 1 → IsReached self.now.index (first_key self.now.dataset) → (first_place self.now.dataset self.now.index).address ≡ undefined) }
@@ -308,7 +308,7 @@ impl WriterCore {
     }
 
     /// The writes of the rows that wait, which all go into this chunk, with room for a superblock and a header.
-    fn plan_alone(&mut self, place: ChunkPlace) -> Result<Vec<Write>, OutOfMemory>
+    pub(crate) fn plan_alone(&mut self, place: ChunkPlace) -> Result<Vec<Write>, OutOfMemory>
         requires waits { 0 < self.old.waits }
         requires early { self.old.early ≡ 0 }
         requires placing { IsPlacing self.old.dataset (rows_of self.old) self.old.index self.old.places (place ∷ []) [] self.old.index self.old.places }

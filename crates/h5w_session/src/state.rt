@@ -6,7 +6,8 @@ ghost use Rattle.h5w_model.specs.Causes.{Rose};
 ghost use Rattle.h5w_model.specs.Logs.{Log, and_now, appended, appends, flushed_rows, load, rows_in, shows};
 ghost use Rattle.h5w_options.specs.Options.{AreOptions};
 ghost use Rattle.h5w_model.specs.Superblock.{super_at, super_bytes};
-ghost use Rattle.h5w_session.specs.Creations.{IsCreated, new_file};
+ghost use Rattle.h5w_session.specs.Creations.{IsCreated};
+ghost use Rattle.h5w_form.specs.NewFiles.{new_file};
 ghost use Rattle.h5w_creation_laws.specs.CreatedFiles.{created_log};
 ghost use Rattle.h5w_image.specs.View.{Same};
 ghost use Rattle.h5w_session.specs.Room.{HasRoomFor};
@@ -18,10 +19,10 @@ ghost use Rattle.h5w_session.specs.declared.refusal.AppendError.{AppendError};
 ghost use Rattle.h5w_session.specs.declared.refusal.CloseError.{CloseError};
 
 use crate::backlog::Backlog;
-use crate::form::form_of;
 use crate::refusal::{AppendError, CloseError};
 use h5w_chunks::{Grid, IndexKind};
 use h5w_creation::create_file;
+use h5w_form::form_of;
 use h5w_image::PieceWrite;
 use h5w_index::Index;
 use h5w_model::{OutOfMemory, Piece, Super, Write};
@@ -199,7 +200,7 @@ impl WriterCore {
     }
 
     /// Why these values are not appended, but for the image and memory.
-    fn check(&self, values: &[i128]) -> Result<(), AppendError>
+    pub(crate) fn check(&self, values: &[i128]) -> Result<(), AppendError>
         requires rows { AreRows self.now values.now }
         ensures { MatchOption (append_refusal self.now values.now) (result ≡ Ok tt) (λ e. result ≡ Err e) }
     {

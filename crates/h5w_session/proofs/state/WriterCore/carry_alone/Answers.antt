@@ -1,4 +1,5 @@
 use Rattle.std.proofs.Common.{◌≡◌, ℕ, ◌<◌, ◌∙◌, List, [], ◌∷◌, length, refl, ap, sym, subst, arith}
+use Rattle.h5w_model.specs.declared.piece.Write.{Write}
 use Rattle.h5w_chunks.specs.Rows.{RowsWritten}
 use Rattle.h5w_chunks.specs.Shares.{new_writes, touched}
 use Rattle.h5w_chunks.specs.declared.grid.ChunkPlace.{ChunkPlace}
@@ -18,12 +19,16 @@ use Rattle.h5w_session.proofs.TakingLemmas.{filled_cell}
 use Rattle.h5w_index.specs.Held.{view_of}
 use Rattle.h5w_session.proofs.state.WriterCore.carry_alone.Goals as goal
 
-pub raise_rows-header-requires-clause-rows : goal.raise_rows-header-requires-clause-rows
-raise_rows-header-requires-clause-rows c = has_rows c.self.inside.header c.self.invariant.0.header
+pub change_rows-requires-clause-rows : goal.change_rows-requires-clause-rows
+change_rows-requires-clause-rows c = has_rows c.self.inside.header c.self.invariant.0.header
+
+-- the piece that writes the header
+abbrev header_piece : goal.After-commit_plan → Write
+header_piece c = record { at = c.self.inside.place; piece = c.change_rows.new.header }
 
 -- what the calls made of the session, once all of them are done
 made_by : (c : goal.After-commit_plan)
-    → Carried (session_of c.self.inside) c.rows-to.result c.self.inside.places (view_of c.self.inside.index) c.end_with-pieces.result.items c.raise-superblock.new.root c.raise_rows-header.new.header c.commit_plan.new.self
+    → Carried (session_of c.self.inside) c.rows-to.result c.self.inside.places (view_of c.self.inside.index) c.end_at-pieces.result.items c.raise-superblock.new.root c.change_rows.new.header c.commit_plan.new.self
 made_by c =
     let i = c.self.inside in
     let v = session_of i in
@@ -75,11 +80,11 @@ made_by c =
       ended = c.raise-superblock.ensures.ended;
       unraised = c.raise-superblock.ensures.unraised;
       root = c.raise-superblock.ensures.root;
-      header = c.raise_rows-header.ensures.header;
-      last = c.raise_rows-header.result;
-      last_is = c.raise_rows-header.ensures.write;
-      items = c.end_with-pieces.ensures.exact;
-      header_short = c.raise_rows-header.ensures.short;
+      header = c.change_rows.ensures.header;
+      last = header_piece c;
+      last_is = refl;
+      items = c.end_at-pieces.ensures.exact;
+      header_short = c.change_rows.ensures.short;
       planned = c.commit_plan.ensures.planned;
     }
 
@@ -97,7 +102,7 @@ invariant_of-self c =
       },
       carried_list _ _ _ _ _ _ _ _ x is,
       shown_few _ _ x.planned,
-      omega (arith, c.commit_plan.ensures.room, c.end_with-pieces.ensures.room),
+      omega (arith, c.commit_plan.ensures.room, c.end_at-pieces.ensures.room),
     )
 
 pub returns-clause-flushed : goal.returns-clause-flushed
@@ -112,7 +117,7 @@ returns-clause-ends c = carried_ends _ _ _ _ _ _ _ _ (made_by c) c.self.invarian
 pub returns-clause-few : goal.returns-clause-few
 returns-clause-few c =
     let supers = option_list c.raise-superblock.result in
-    let long = ap length (pending_is _ _ c.commit_plan.ensures.planned ∙ c.end_with-pieces.ensures.exact) ∙ lengths_joined c.args.writes.items [] [] supers c.raise_rows-header.result in
+    let long = ap length (pending_is _ _ c.commit_plan.ensures.planned ∙ c.end_at-pieces.ensures.exact) ∙ lengths_joined c.args.writes.items [] [] supers (header_piece c) in
     omega (arith, long, one_at_most c.raise-superblock.result)
 
 pub returns-clause-places : goal.returns-clause-places

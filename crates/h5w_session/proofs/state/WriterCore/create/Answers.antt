@@ -8,9 +8,10 @@ use Rattle.h5w_creation.specs.Forms.{created_by}
 use Rattle.h5w_creation.specs.Made.{IsNewIndex}
 use Rattle.h5w_creation_laws.specs.CreatedFiles.{CreatedFile, block_place, created_log, created_writes, described_of, end_of, header_place, index_place, super_of}
 use Rattle.h5w_session.specs.Sessions.{ArePieces, IsSession, Session}
-use Rattle.h5w_session.specs.Creations.{IsIndexOf, IsLimit, created, new_file, places_to}
+use Rattle.h5w_session.specs.Creations.{IsIndexOf, IsLimit, created, places_to}
+use Rattle.h5w_form.specs.NewFiles.{new_file}
 use Rattle.h5w_session.specs.Stands.{Stands}
-use Rattle.h5w_session.proofs.OptionLemmas.{creatable}
+use Rattle.h5w_form.proofs.OptionLemmas.{creatable}
 use Rattle.h5w_session.proofs.SessionStarts.{created_is, created_pieces}
 use Rattle.h5w_session.proofs.CreatingLemmas.{creation_begins}
 use Rattle.h5w_session.proofs.state.WriterCore.create.Goals as goal
