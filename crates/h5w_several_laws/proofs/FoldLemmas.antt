@@ -16,38 +16,38 @@ use Rattle.h5w_several_laws.specs.Turns.{AllFollow, AllPart, AllPlan, AreKnown, 
 use Rattle.h5w_several_laws.proofs.TurnLemmas.{turn_known}
 
 -- each of the first is apart from all of the second
-abbrev AreAcross : List Entry → List Entry → Type 0
+abbrev pub AreAcross : List Entry → List Entry → Type 0
 AreAcross [] es = Unit {0}
 AreAcross (d ∷ ds) es = IsOff d es × AreAcross ds es
 
 -- ---- Lists of datasets
 
-flip_apart : (e x : Entry) → IsApart e x → IsApart x e
+pub flip_apart : (e x : Entry) → IsApart e x → IsApart x e
 flip_apart e x off = record { own = λ u v a b. apart_sym v u (off.own v u b a); held = off.other; other = off.held }
 
-across_tail : (ds : List Entry) (e : Entry) (es : List Entry) → AreAcross ds (e ∷ es) → AreAcross ds es
+pub across_tail : (ds : List Entry) (e : Entry) (es : List Entry) → AreAcross ds (e ∷ es) → AreAcross ds es
 across_tail [] e es a = tt
 across_tail (d ∷ ds) e es a = (a.0.1, across_tail ds e es a.1)
 
-across_head : (ds : List Entry) (e : Entry) (es : List Entry) → AreAcross ds (e ∷ es) → IsOff e ds
+pub across_head : (ds : List Entry) (e : Entry) (es : List Entry) → AreAcross ds (e ∷ es) → IsOff e ds
 across_head [] e es a = tt
 across_head (d ∷ ds) e es a = (flip_apart e d a.0.0, across_head ds e es a.1)
 
-off_append : (m : Entry) (ds es : List Entry) → IsOff m ds → IsOff m es → IsOff m (ds ++ es)
+pub off_append : (m : Entry) (ds es : List Entry) → IsOff m ds → IsOff m es → IsOff m (ds ++ es)
 off_append m [] es a b = b
 off_append m (d ∷ ds) es a b = (a.0, off_append m ds es a.1 b)
 
-all_off : (ds es : List Entry) → AreOff ds → AreOff es → AreAcross ds es → AreOff (ds ++ es)
+pub all_off : (ds es : List Entry) → AreOff ds → AreOff es → AreAcross ds es → AreOff (ds ++ es)
 all_off [] es a b c = b
 all_off (d ∷ ds) es a b c = (off_append d ds es a.0 c.0, all_off ds es a.1 b c.1)
 
-known_append : (img : List ℕ) (s : Space) (super : Super) (root : List Used) (ds es : List Entry) → AreKnown img s super root ds → AreKnown img s super root es → AreKnown img s super root (ds ++ es)
+pub known_append : (img : List ℕ) (s : Space) (super : Super) (root : List Used) (ds es : List Entry) → AreKnown img s super root ds → AreKnown img s super root es → AreKnown img s super root (ds ++ es)
 known_append img s super root [] es a b = b
 known_append img s super root (d ∷ ds) es a b = (a.0, known_append img s super root ds es a.1 b)
 
 -- ---- With another superblock
 
-off_then : (m : Entry) (super : Super) (es : List Entry) → IsOff m es → IsOff m (all_then super es)
+pub off_then : (m : Entry) (super : Super) (es : List Entry) → IsOff m es → IsOff m (all_then super es)
 off_then m super [] a = tt
 off_then m super (e ∷ es) a = (record { own = a.0.own; held = a.0.held; other = a.0.other }, off_then m super es a.1)
 
@@ -55,39 +55,39 @@ off_as : (super : Super) (e : Entry) (es : List Entry) → IsOff e es → IsOff 
 off_as super e [] a = tt
 off_as super e (x ∷ es) a = (record { own = a.0.own; held = a.0.held; other = a.0.other }, off_as super e es a.1)
 
-all_off_then : (super : Super) (es : List Entry) → AreOff es → AreOff (all_then super es)
+pub all_off_then : (super : Super) (es : List Entry) → AreOff es → AreOff (all_then super es)
 all_off_then super [] a = tt
 all_off_then super (e ∷ es) a = (off_as super e (all_then super es) (off_then e super es a.0), all_off_then super es a.1)
 
-across_then : (super : Super) (ds es : List Entry) → AreAcross ds es → AreAcross (all_then super ds) (all_then super es)
+pub across_then : (super : Super) (ds es : List Entry) → AreAcross ds es → AreAcross (all_then super ds) (all_then super es)
 across_then super [] es a = tt
 across_then super (d ∷ ds) es a = (off_as super d (all_then super es) (off_then d super es a.0), across_then super ds es a.1)
 
-record BothOff (m : Entry) (xs ys : List Entry) : Type 0 where
-  one : IsOff m xs
-  two : IsOff m ys
+pub record BothOff (m : Entry) (xs ys : List Entry) : Type 0 where
+  pub one : IsOff m xs
+  pub two : IsOff m ys
 
-split_off : (m : Entry) (super : Super) (ds es : List Entry) → IsOff m (all_then super (ds ++ es)) → BothOff m (all_then super ds) (all_then super es)
+pub split_off : (m : Entry) (super : Super) (ds es : List Entry) → IsOff m (all_then super (ds ++ es)) → BothOff m (all_then super ds) (all_then super es)
 split_off m super [] es a = record { one = tt; two = a }
 split_off m super (d ∷ ds) es a =
     let r = split_off m super ds es a.1 in
     record { one = (a.0, r.one); two = r.two }
 
-record BothKnown (img : List ℕ) (s : Space) (super : Super) (root : List Used) (xs ys : List Entry) : Type 0 where
-  one : AreKnown img s super root xs
-  two : AreKnown img s super root ys
+pub record BothKnown (img : List ℕ) (s : Space) (super : Super) (root : List Used) (xs ys : List Entry) : Type 0 where
+  pub one : AreKnown img s super root xs
+  pub two : AreKnown img s super root ys
 
-split_known : (img : List ℕ) (s : Space) (super : Super) (root : List Used) (to : Super) (ds es : List Entry) → AreKnown img s super root (all_then to (ds ++ es)) → BothKnown img s super root (all_then to ds) (all_then to es)
+pub split_known : (img : List ℕ) (s : Space) (super : Super) (root : List Used) (to : Super) (ds es : List Entry) → AreKnown img s super root (all_then to (ds ++ es)) → BothKnown img s super root (all_then to ds) (all_then to es)
 split_known img s super root to [] es a = record { one = tt; two = a }
 split_known img s super root to (d ∷ ds) es a =
     let r = split_known img s super root to ds es a.1 in
     record { one = (a.0, r.one); two = r.two }
 
-record BothPlan (img : List ℕ) (ws : List Write) (to : Super) (xs ys : List Entry) : Type 0 where
-  one : ArePlans img ws to xs
-  two : ArePlans img ws to ys
+pub record BothPlan (img : List ℕ) (ws : List Write) (to : Super) (xs ys : List Entry) : Type 0 where
+  pub one : ArePlans img ws to xs
+  pub two : ArePlans img ws to ys
 
-split_plans : (img : List ℕ) (ws : List Write) (to : Super) (ds es : List Entry) → ArePlans img ws to (ds ++ es) → BothPlan img ws to ds es
+pub split_plans : (img : List ℕ) (ws : List Write) (to : Super) (ds es : List Entry) → ArePlans img ws to (ds ++ es) → BothPlan img ws to ds es
 split_plans img ws to [] es a = record { one = tt; two = a }
 split_plans img ws to (d ∷ ds) es a =
     let r = split_plans img ws to ds es a.1 in
@@ -152,14 +152,14 @@ none_yet img (d ∷ ds) = (record { super = d.moment.super; plan = (refl, refl) 
 
 -- ---- All parts
 
-record State (img : List ℕ) (s : Space) (super : Super) (root : List Used) (done es : List Entry) : Type 0 where
-  passed : AreKnown img s super root done
-  known : AreKnown img s super root es
-  apart : AreOff done
-  off : AreOff es
-  across : AreAcross done es
+pub record State (img : List ℕ) (s : Space) (super : Super) (root : List Used) (done es : List Entry) : Type 0 where
+  pub passed : AreKnown img s super root done
+  pub known : AreKnown img s super root es
+  pub apart : AreOff done
+  pub off : AreOff es
+  pub across : AreAcross done es
 
-turned : (img : List ℕ) (s : Space) (super : Super) (root : List Used) (done : List Entry) (e : Entry) (es : List Entry) (f : Parts) (u : Space) → (st : State img s super root done (e ∷ es)) → IsTurn img e (done ++ es) f u
+pub turned : (img : List ℕ) (s : Space) (super : Super) (root : List Used) (done : List Entry) (e : Entry) (es : List Entry) (f : Parts) (u : Space) → (st : State img s super root done (e ∷ es)) → IsTurn img e (done ++ es) f u
     → State (image img (part_of img e f)) u (super_then e f) root (flushed e f ∷ all_then (super_then e f) done) (all_then (super_then e f) es)
 turned img s super root done e es f u st turn =
     let to : Super = super_then e f in

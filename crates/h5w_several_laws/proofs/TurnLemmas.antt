@@ -26,19 +26,19 @@ use Rattle.h5w_several_laws.specs.Turns.{AreKnown, AreOff, ArePlans, Entry, IsOf
 
 -- ---- Ranges as blocks
 
-whole_among : (us : List Used) (u : Used) → Among u us → Among (whole_of u) (map whole_of us)
+pub whole_among : (us : List Used) (u : Used) → Among u us → Among (whole_of u) (map whole_of us)
 whole_among [] u a = absurd a
 whole_among (x ∷ us) u (inl e) = inl (ap whole_of e)
 whole_among (x ∷ us) u (inr a) = inr (whole_among us u a)
 
-from_whole : (us : List Used) (w : Used) → Among w (map whole_of us) → (u : Used) × Among u us × (whole_of u ≡ w)
+pub from_whole : (us : List Used) (w : Used) → Among w (map whole_of us) → (u : Used) × Among u us × (whole_of u ≡ w)
 from_whole [] w a = absurd a
 from_whole (x ∷ us) w (inl e) = (x, inl refl, e)
 from_whole (x ∷ us) w (inr a) =
     let r = from_whole us w a in
     (r.0, inr r.1, r.2)
 
-join : (us vs : List Used) → Disjoint us → Disjoint vs → OffAll us vs → Disjoint (us ++ vs)
+pub join : (us vs : List Used) → Disjoint us → Disjoint vs → OffAll us vs → Disjoint (us ++ vs)
 join [] vs d e off = e
 join (u ∷ us) vs d e off = (d.0, λ x a. go x (among_split x us vs a), join us vs d.2 e (λ a b c f. off a b (inr c) f))
   where
@@ -48,7 +48,7 @@ join (u ∷ us) vs d e off = (d.0, λ x a. go x (among_split x us vs a), join us
 
 -- ---- What others have
 
-off_owns : (x : Entry) (es : List Entry) → IsOff x es → OffAll (owns es) (own_of x.moment)
+pub off_owns : (x : Entry) (es : List Entry) → IsOff x es → OffAll (owns es) (own_of x.moment)
 off_owns x [] off u v a b = absurd a
 off_owns x (e ∷ es) off u v a b = go (off_owns x es off.1) (among_split u (own_of e.moment) (owns es) a)
   where
@@ -155,7 +155,7 @@ module _ (img : List ℕ) (e : Entry) (es : List Entry) (s : Space) (one : IsOne
           let w = from_whole (owns es) u c in
           subst (λ (x : Used). x.place + x.len ≤ m.super.end) w.2 (owns_end img s m.super m.root es all w.0 w.1)
 
-  told_live : AllLive s (all_used (told m es))
+  pub told_live : AllLive s (all_used (told m es))
   told_live u a = first a
     where
       third : Among u m.root ⊎ Among u wholes → IsLive s (extent_of u)
@@ -172,7 +172,7 @@ module _ (img : List ℕ) (e : Entry) (es : List Entry) (s : Space) (one : IsOne
       first (inl c) = k.live u (inl c)
       first (inr c) = second (among_split u (m.root ++ wholes) (own_of m) c)
 
-  told_file : Represents img e.name (told m es)
+  pub told_file : Represents img e.name (told m es)
   told_file = record {
     super = k.file.super;
     root = record {
@@ -231,6 +231,11 @@ module _ (img : List ℕ) (e : Entry) (es : List Entry) (s : Space) (one : IsOne
     };
     layout = k.layout;
   }
+
+  -- what its readers and those of others may hold
+  pub told_holding : Holding (told m es) s (k.held ++ hs)
+  unfolding told_knows
+  told_holding = told_knows.holding
 
   -- told of what others have, not of what is held of them
   told_own : Knows img e.name (told m es) e.address s

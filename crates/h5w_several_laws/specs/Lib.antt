@@ -4,4 +4,5 @@ pub mod Seen
 pub mod Dues
 pub mod Others
 pub mod Turns
+pub mod Together
 pub mod Takes

@@ -5,6 +5,7 @@
 
 mod beside;
 mod logs;
+mod together;
 mod turns;
 
 pub use beside::{
@@ -12,4 +13,5 @@ pub use beside::{
     others_know, settled_apart,
 };
 pub use logs::{piece_due, plan_due, seen_laws, settled_goes, settled_laws, takes_over};
+pub use together::{all_found, flush_stays_valid};
 pub use turns::{turn_known, turn_runs, turns_follow};

@@ -1,0 +1,16 @@
+pub mod SeenLemmas
+pub mod SightLemmas
+pub mod ValidLemmas
+pub mod PassedLemmas
+pub mod TurnPartLemmas
+pub mod FoldPartLemmas
+pub mod ValidFlushLemmas
+pub mod FlushAllLemmas
+pub mod GiveLemmas
+pub mod ShownLemmas
+pub mod ShownAllLemmas
+pub mod AppendAllLemmas
+pub mod EndLemmas
+pub mod TogetherLemmas
+pub mod CallLemmas
+pub mod BoundLemmas

@@ -1,0 +1,7 @@
+pub mod Seen
+pub mod Sessions
+pub mod Valid
+pub mod Standing
+pub mod Together
+pub mod Laws
+pub mod Bounds
