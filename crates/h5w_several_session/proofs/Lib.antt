@@ -1,0 +1,6 @@
+pub mod PartLemmas
+pub mod TurnLemmas
+pub mod ShownLemmas
+pub mod EndLemmas
+pub mod CountedLemmas
+pub mod StandLemmas

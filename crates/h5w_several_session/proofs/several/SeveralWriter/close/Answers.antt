@@ -1,0 +1,10 @@
+use Rattle.std.proofs.Common.{subst}
+use Rattle.h5w_several_session_laws.specs.Sessions.{AreParts, Sessions}
+use Rattle.h5w_several_session.proofs.StandLemmas.{close_stands}
+use Rattle.h5w_several_session.proofs.several.SeveralWriter.close.Goals as goal
+
+pub returns-clause-stands : goal.returns-clause-stands
+returns-clause-stands c =
+    let e = c.clear.ensures in
+    let parts = subst (λ (S : Sessions). AreParts S S.parts) c.self.view_is c.self.invariant.0.sessions.each in
+    close_stands c.clear.result c.args.self.now _ e.going e.idle parts e.reads e.closed
