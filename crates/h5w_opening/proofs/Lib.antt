@@ -1,3 +1,5 @@
+pub mod NameLemmas
+pub mod FrontLemmas
 pub mod OpeningLemmas
 pub mod WritingLemmas
 pub mod FoundParts

@@ -38,11 +38,11 @@ behind_place s img place = then_also (dataset_found place img) (opened_by s plac
 abbrev pub behind_super : List ℕ → List ℕ → Super → Result Opened OpenError
 behind_super name img s = then_also (place_found name s.root img) (behind_place s img)
 
-then_joined : {A B C E : Type 0} (r : Result A E) (f : A → Result B E) (g : B → Result C E) → then_also r (λ a. then_also (f a) g) ≡ then_also (then_also r f) g
+pub then_joined : {A B C E : Type 0} (r : Result A E) (f : A → Result B E) (g : B → Result C E) → then_also r (λ a. then_also (f a) g) ≡ then_also (then_also r f) g
 then_joined (Ok a) f g = refl
 then_joined (Err e) f g = refl
 
-read_first : {A B : Type 0} (img : List ℕ) (p : Prog (Result A ReadError)) (f : A → Prog (Result B OpenError)) → eval img (and_then (reading p) f) ≡ then_also (refused_as Read (eval img p)) (λ a. eval img (f a))
+pub read_first : {A B : Type 0} (img : List ℕ) (p : Prog (Result A ReadError)) (f : A → Prog (Result B OpenError)) → eval img (and_then (reading p) f) ≡ then_also (refused_as Read (eval img p)) (λ a. eval img (f a))
 read_first img p f = eval_and_then img (reading p) f ∙ ap (λ r. then_also r (λ a. eval img (f a))) (eval_bind img p (λ r. ret (refused_as Read r)))
 
 on_header : Super → ℕ → HeaderFields → Prog (Result Opened OpenError)

@@ -7,7 +7,7 @@ use Rattle.h5w_found.specs.Errors.{IsOfBytes}
 use Rattle.h5w_found.specs.declared.error.FindError.{FindError}
 use Rattle.h5w_found.specs.declared.error.FindError.TheVariants as find_errors
 use Rattle.h5w_opening.specs.declared.error.OpenError.{OpenError}
-use Rattle.h5w_opening.specs.declared.error.OpenError.TheVariants.{Read, Version, Flags, Cut, Layout, ChunkBytes, NoColumns, Finding, Failed, OutOfMemory}
+use Rattle.h5w_opening.specs.declared.error.OpenError.TheVariants.{Read, Version, Flags, Cut, Same, Layout, ChunkBytes, NoColumns, Finding, Failed, OutOfMemory}
 
 -- a refusal of reading is one of opening; a failed image and want of memory stay what they are
 abbrev pub open_error : FindError → OpenError
@@ -28,6 +28,7 @@ refusal_of (Read e) = Some (Read e)
 refusal_of (Version version) = Some (Version version)
 refusal_of (Flags flags) = Some (Flags flags)
 refusal_of (Cut end size) = Some (Cut end size)
+refusal_of (Same first second) = Some (Same first second)
 refusal_of Layout = Some Layout
 refusal_of (ChunkBytes bytes limit) = Some (ChunkBytes bytes limit)
 refusal_of NoColumns = Some NoColumns

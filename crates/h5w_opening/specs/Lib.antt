@@ -4,4 +4,5 @@ pub use Rattle.h5w_found.specs.Ran
 pub use Rattle.h5w_found.specs.Walks
 pub mod Errors
 pub mod Openings
+pub mod Fronts
 pub mod Views

@@ -3,8 +3,8 @@ use h5w_image::ImageError;
 use h5w_model::{OutOfMemory, ReadError};
 use thiserror::Error;
 
-/// Why a file is not opened for appending. Version, Flags and Cut are tried in this order right after the superblock; Layout, ChunkBytes,
-/// NoColumns and Finding in this order after all of Read.
+/// Why a file is not opened for appending. Version, Flags and Cut are tried in this order right after the superblock; Same once all links were
+/// found, before any dataset header; Layout, ChunkBytes, NoColumns and Finding in this order after all of Read.
 #[derive(Clone, Copy, Debug, PartialEq, Eq, Error)]
 pub enum OpenError {
     /// It is not read: never NotSwmr, Again, Shrunk or OutOfMemory, since two looks are never compared here, and no rows were seen before.
@@ -19,6 +19,10 @@ pub enum OpenError {
     /// The end-of-file address is past the file's size.
     #[error("end {end} of {size} bytes")]
     Cut { end: u64, size: u64 },
+    /// Two of the names that the file is opened by lead to one dataset header. They are counted from 1: of all such two the second is the least,
+    /// and then the first.
+    #[error("names {first} and {second} lead to one dataset header")]
+    Same { first: u64, second: u64 },
     /// There is no index yet, and the layout message, which is to have its address, stands outside of the dataset header's chunk 0.
     #[error("layout message outside of chunk 0")]
     Layout,

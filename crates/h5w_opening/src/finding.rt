@@ -70,7 +70,7 @@ fn closed(s: Super, size: u64) -> Result<Super, OpenError>
 }
 
 /// The superblock of a file of `size` bytes.
-fn start<I: PieceRead>(alloc: Global, image: &mut I, size: u64) -> Result<Super, OpenError>
+pub fn start<I: PieceRead>(alloc: Global, image: &mut I, size: u64) -> Result<Super, OpenError>
     ensures ran { Ran open_errors (I.view image.old) (I.view image.new) (super_found size) result }
     ensures kinds { IfErr result IsOpenKind }
     ensures closed { IfOk result (λ t. is_open t.flags ≡ false) }
@@ -137,13 +137,16 @@ fn known(found: &[FoundMessage], len: u64) -> Result<DatasetHeader, OpenError>
 }
 
 /// The dataset whose header stands at `place`.
-fn dataset_at<I: PieceRead>(
+pub fn dataset_at<I: PieceRead>(
     alloc: Global,
     image: &mut I,
     place: u64,
 ) -> Result<DatasetHeader, OpenError>
+    // Where the image tells its bytes and nobody else writes it: Ok exactly where they have this header, and else the first refusal,
+    // unless the image failed, which its count of faults shows, or memory ran out.
     ensures ran { Ran open_errors (I.view image.old) (I.view image.new) (dataset_found place) (seen header_fields_of result) }
     ensures kinds { IfErr result IsOpenKind }
+    // On every image some messages say what was found.
     ensures said { IfOk result (λ h. IsSaid (header_fields_of h)) }
 {
     let header = dataset_header(alloc, image, true, place)?;

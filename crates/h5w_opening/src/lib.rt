@@ -6,6 +6,8 @@
 
 mod error;
 mod finding;
+mod names;
 
 pub use error::OpenError;
-pub use finding::{DatasetHeader, Opening, check, find};
+pub use finding::{DatasetHeader, Opening, check, dataset_at, find};
+pub use names::{Front, find_front};

@@ -1,11 +1,12 @@
-mod OpenRangeLemmas
-mod SaidLemmas
-mod OpenLineLemmas
-mod SessionOver
+pub mod OpenRangeLemmas
+pub mod SaidLemmas
+pub mod OpenLineLemmas
+pub mod SessionOver
 mod UndamagedLemmas
 mod UndamagedTreeLemmas
-mod OverFile
+pub mod OverFile
 mod FrontLemmas
 pub mod LeftLemmas
-mod OpenStepLemmas
-mod OpenAnswerLemmas
+pub mod OpenStepLemmas
+pub mod OpenAnswerLemmas
+pub mod PartLemmas

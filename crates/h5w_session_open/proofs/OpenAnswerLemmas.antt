@@ -23,7 +23,7 @@ use Rattle.h5w_session_open.proofs.OverFile.{IsFirst, bare_over, both_set, opene
 use Rattle.h5w_session_open.proofs.SessionOver.{in_chunk, near_of, open_below, some_columns, unrefused_parts}
 use Rattle.h5w_session_open.proofs.OpenRangeLemmas.{or_none}
 
-own_version : (o : Opened) → o.root.version ≡ 3 → versioned o ≡ o
+pub own_version : (o : Opened) → o.root.version ≡ 3 → versioned o ≡ o
 own_version o e = ap (λ n. record o { root = record (o.root) { version = n } }) (sym e)
 
 -- the first chunk of an index that was read

@@ -44,9 +44,9 @@ use Rattle.h5w_opening.specs.Errors.{IsOpenKind, open_errors, refusal_of}
 use Rattle.h5w_opening.specs.Openings.{Opened, chunk_0_len, looked_for, most_chunk_bytes, refused_dataset, in_chunk_0}
 use Rattle.h5w_opening.specs.Views.{opened_of}
 use Rattle.h5w_opening.specs.declared.error.OpenError.{OpenError}
-use Rattle.h5w_opening.specs.declared.error.OpenError.TheVariants.{Read, Version, Flags, Cut, Failed, OutOfMemory, Layout, ChunkBytes, NoColumns, Finding}
+use Rattle.h5w_opening.specs.declared.error.OpenError.TheVariants.{Read, Version, Flags, Cut, Same, Failed, OutOfMemory, Layout, ChunkBytes, NoColumns, Finding}
 use Rattle.h5w_opening.specs.declared.finding.Opening.{Opening}
-use Rattle.h5w_opening.proofs.FoundParts.{parts}
+use Rattle.h5w_opening.proofs.FoundParts.{HeaderFound, parts}
 use Rattle.h5w_opening.proofs.WritingLemmas.{alike_ok, dataset_alike}
 use Rattle.h5w_session_open.specs.declared.index.NoIndex.{NoIndex}
 use Rattle.h5w_session_open.specs.declared.index.NoIndex.TheVariants as whys
@@ -121,15 +121,32 @@ as_refusal : {A : Type 0} (given : Result A OpenError) (o : Option OpenError) �
 as_refusal given (Some e) h = h
 as_refusal given None h = tt
 
+-- a step that is told by what an image gives
+pub told_step : {A B : Type 0} {v w : ImageView} (given : List ℕ → Result B OpenError) (f : A → B) (r : Result A OpenError) → Ran open_errors v w given (seen f r) → IfErr r IsOpenKind
+    → OpenStep v w (λ img a. given img ≡ Ok (f a)) (λ img e. given img ≡ Err e) r
+told_step given f (Ok a) ran kinds = record { looked = ran.looked; cause = λ e. absurd cc; kinds = tt; exact = ran.exact }
+told_step {A = A} {B = B} given f (Err e) ran kinds = record {
+  looked = ran.looked;
+  cause = λ h. ran.cause (same_error {A = A} {B = B} e h);
+  kinds = kinds;
+  exact = λ img still. as_refusal (given img) (refusal_of e) (ran.exact img still);
+}
+
 pub ran_step : {v w : ImageView} (size : ℕ) (name : List ℕ) (r : Result Opening OpenError) → Ran open_errors v w (λ img. eval img (looked_for size name)) (seen opened_of r) → IfErr r IsOpenKind
     → OpenStep v w (λ img o. eval img (looked_for size name) ≡ Ok (opened_of o)) (λ img e. eval img (looked_for size name) ≡ Err e) r
-ran_step size name (Ok o) ran kinds = record { looked = ran.looked; cause = λ e. absurd cc; kinds = tt; exact = ran.exact }
-ran_step size name (Err e) ran kinds = record {
-  looked = ran.looked;
-  cause = λ h. ran.cause (same_error {A = Opening} {B = Opened} e h);
-  kinds = kinds;
-  exact = λ img still. as_refusal (eval img (looked_for size name)) (refusal_of e) (ran.exact img still);
-}
+ran_step size name r ran kinds = told_step (λ img. eval img (looked_for size name)) opened_of r ran kinds
+
+-- what looks at no image was refused
+pub step_none : {A : Type 0} {v : ImageView} (T : List ℕ → A → Type 0) (U : List ℕ → OpenError → Type 0) (e : OpenError) → IsQuiet e → ((img : List ℕ) → IfRefusal (refusal_of e) (U img)) → OpenStep {A = A} v v T U (Err e)
+step_none {A = A} {v = v} T U e quiet bad = record { looked = looked_itself v; cause = λ h. absurd (quiet.1 (is_failed h)); kinds = quiet.0; exact = λ img still. bad img }
+  where
+    is_failed : as_error {A = A} e ≡ Err Failed → e ≡ Failed
+    is_failed h = cc
+
+-- a step answered, and nothing more is looked at
+pub step_on : {A B : Type 0} {v w : ImageView} {P : List ℕ → A → Type 0} {Q : List ℕ → OpenError → Type 0} (T : List ℕ → B → Type 0) (U : List ℕ → OpenError → Type 0) (a : A) (b : B) → OpenStep v w P Q (Ok a) → ((img : List ℕ) → P img a → T img b)
+    → OpenStep v w T U (Ok b)
+step_on T U a b one good = record { looked = one.looked; cause = λ e. absurd cc; kinds = tt; exact = λ img still. good img (one.exact img still) }
 
 -- chunk 0 of what was found can be written
 pub record IsKeptFront (img : List ℕ) (o : Opened) : Type 0 where
@@ -137,10 +154,9 @@ pub record IsKeptFront (img : List ℕ) (o : Opened) : Type 0 where
   pub writable : IsWritable (chunk_0 img o.place)
   pub addressed : o.header.in_chunk_0 ≡ true → HasAddress (chunk_0 img o.place)
 
-pub kept_front : (img : List ℕ) (size : ℕ) (name : List ℕ) (o : Opened) → eval img (looked_for size name) ≡ Ok o → IsKeptFront img o
-kept_front img size name o is =
-    let p = parts img size name o is in
-    let read = alike_ok (eval img (dataset_messages o.place (header_view (range img o.place 512)))) (eval img (dataset_header_for true o.place)) p.header (dataset_alike img o.place) p.header_read in
+pub front_kept : (img : List ℕ) (o : Opened) → HeaderFound img o.place o.header → IsKeptFront img o
+front_kept img o p =
+    let read = alike_ok (eval img (dataset_messages o.place (header_view (range img o.place 512)))) (eval img (dataset_header_for true o.place)) p.header (dataset_alike img o.place) p.read in
     let r = header_read img o.place p.header read in
     let x = has_space img o.place p.header o.header.dataset r p.says in
     let len : o.header.len ≡ r.prefix.total = p.len ∙ ap chunk_0_len r.ranges in
@@ -154,6 +170,11 @@ kept_front img size name o is =
           record { list = r.listed; layout = y.layout; read = r.read; first = y.found; room = y.room };
       writable = record { some = omega (arith, r.long, r.some); list = r.listed; space = x.space; read = r.read; first = x.found; long = x.long };
     }
+
+pub kept_front : (img : List ℕ) (size : ℕ) (name : List ℕ) (o : Opened) → eval img (looked_for size name) ≡ Ok o → IsKeptFront img o
+kept_front img size name o is =
+    let p = parts img size name o is in
+    front_kept img o (record { header = p.header; read = p.header_read; says = p.says; len = p.len; in_chunk = p.in_chunk })
 
 -- ---- What refuses an opening is no failed image, and is refused for its bytes
 
@@ -200,21 +221,23 @@ refused_quiet o a e h = elim (or_some (ranges_refused o a) (option_or (refused_d
   ]
 ]
 
+-- what is said of each refusal
+pub some_refusal : (P : OpenError → Type 0) (e : OpenError) → P e → IfRefusal (refusal_of e) P
+some_refusal P (Read x) h = h
+some_refusal P (Version version) h = h
+some_refusal P (Flags flags) h = h
+some_refusal P (Cut end size) h = h
+some_refusal P (Same first second) h = h
+some_refusal P Layout h = h
+some_refusal P (ChunkBytes bytes limit) h = h
+some_refusal P NoColumns h = h
+some_refusal P (Finding kind at) h = h
+some_refusal P Failed h = tt
+some_refusal P OutOfMemory h = tt
+
 -- a refusal of what was found refuses the file
 pub refused_file : (img : List ℕ) (size : ℕ) (name : List ℕ) (o : Opened) (a : Result IndexView NoIndex) (e : OpenError) → IsFoundIn img size name o a → (refused_open o a ≡ Some e) ⊎ (e ≡ OutOfMemory) → IfRefusal (refusal_of e) (IsNotOpened img size name)
-refused_file img size name o a e f (inl h) = by_error e h
-  where
-    by_error : (g : OpenError) → refused_open o a ≡ Some g → IfRefusal (refusal_of g) (IsNotOpened img size name)
-    by_error (Read x) h = refused o a (Read x) f.is f.index h
-    by_error (Version version) h = refused o a (Version version) f.is f.index h
-    by_error (Flags flags) h = refused o a (Flags flags) f.is f.index h
-    by_error (Cut end size) h = refused o a (Cut end size) f.is f.index h
-    by_error Layout h = refused o a Layout f.is f.index h
-    by_error (ChunkBytes bytes limit) h = refused o a (ChunkBytes bytes limit) f.is f.index h
-    by_error NoColumns h = refused o a NoColumns f.is f.index h
-    by_error (Finding kind at) h = refused o a (Finding kind at) f.is f.index h
-    by_error Failed h = tt
-    by_error OutOfMemory h = tt
+refused_file img size name o a e f (inl h) = some_refusal (IsNotOpened img size name) e (refused o a e f.is f.index h)
 refused_file img size name o a e f (inr h) = subst (λ g. IfRefusal (refusal_of g) (IsNotOpened img size name)) (sym h) tt
 
 -- ---- The index

@@ -298,7 +298,7 @@ module _ (img name : List ℕ) (size : ℕ) (o : Opened) (m : Moment) (is : eval
 pub both_set : (flags : ℕ) → (writing_flags flags % 2 ≡ 1) × (writing_flags flags / 4 % 2 ≡ 1)
 both_set flags = (omega arith, omega arith)
 
-swmr : (s : Super) → is_swmr (record s { flags = writing_flags s.flags }) ≡ true
+pub swmr : (s : Super) → is_swmr (record s { flags = writing_flags s.flags }) ≡ true
 swmr s =
     let b = both_set s.flags in
     or_right (s.version == 2) ((writing_flags s.flags % 2) == (writing_flags s.flags / 4 % 2)) (eq-eqb (writing_flags s.flags % 2) (writing_flags s.flags / 4 % 2) (b.0 ∙ sym b.1))

@@ -105,7 +105,7 @@ unrefused_parts o a h =
     let all = none_past o.root.end (blocks ++ chunks) (map_none (cut_at o.root.end) (first_past o.root.end (blocks ++ chunks)) far.1) in
     record { ranges = by_left o.root.end blocks chunks all; chunks = by_right o.root.end blocks chunks all; dataset = two.0; index = two.1 }
 
-next_told : (told after : Option OpenError) (r : Result (Unit {0}) OpenError) (e : OpenError) → MatchOption told (r ≡ Ok tt) (λ f. r ≡ Err f) → r ≡ Err e → option_or told after ≡ Some e
+pub next_told : (told after : Option OpenError) (r : Result (Unit {0}) OpenError) (e : OpenError) → MatchOption told (r ≡ Ok tt) (λ f. r ≡ Err f) → r ≡ Err e → option_or told after ≡ Some e
 next_told None after r e said is = absurd (let clash : Ok tt ≡ Err e = sym said ∙ is in cc)
 next_told (Some f) after r e said is = let same : ◌≡◌ {A = Result (Unit {0}) OpenError} (Err f) (Err e) = sym said ∙ is in cc
 

@@ -2,3 +2,4 @@ pub mod OpenRanges
 pub mod OpenAnswers
 pub mod OpenSteps
 pub mod OpenLaws
+pub mod OpenParts

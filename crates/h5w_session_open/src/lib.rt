@@ -3,9 +3,11 @@
 
 mod index;
 mod opening;
+mod part;
 mod ranges;
 
 pub use h5w_opening::OpenError;
 pub use h5w_session::WriterCore;
 pub use index::NoIndex;
 pub use opening::{open, open_laws};
+pub use part::{begin_over, read_at};

@@ -117,7 +117,7 @@ fn open_tree<I: PieceRead>(
 }
 
 /// The index of the dataset.
-fn index_of<I: PieceRead>(
+pub fn index_of<I: PieceRead>(
     alloc: Global,
     image: &mut I,
     d: &Dataset,
@@ -140,7 +140,7 @@ const FRONT: [u8; 4] = [0x89, b'H', b'D', b'F'];
 
 /// Refuses an array whose index block was looked at where the superblock stands. No image has both there: somebody else wrote the file between
 /// the looks.
-fn check_block(index: &Result<Index, NoIndex>) -> Result<(), OpenError>
+pub fn check_block(index: &Result<Index, NoIndex>) -> Result<(), OpenError>
     ensures made { OnOk result (HasItsBlock (seen view_of index.now)) }
     ensures refused { IfErr result (λ e. e ≡ no_block_error) }
     ensures lacks { OnErr result (LacksItsBlock (seen view_of index.now)) }
@@ -270,7 +270,7 @@ fn check_header(alloc: Global, bytes: &[u8], starts: bool) -> Result<(), OpenErr
 /// The bytes of chunk 0 of the dataset header at `place`, `len` of them, at most a piece. They are looked at again: where somebody else
 /// writes the file they may be others than those that were found, and then a header without a dataspace is refused, and so is one without
 /// room for an index address where one will be written.
-fn header_piece<I: PieceRead>(
+pub fn header_piece<I: PieceRead>(
     alloc: Global,
     image: &mut I,
     place: u64,
@@ -338,7 +338,7 @@ fn writing_super(s: Super) -> Super
 }
 
 /// A session over what was found, with chunk 0 of the dataset header and the index.
-fn session_over(
+pub fn session_over(
     alloc: Global,
     found: &Opening,
     header: Piece,
@@ -352,6 +352,7 @@ fn session_over(
     requires budget { (1024 ≤ budget) × (budget ≤ 2 ^ 30) }
     requires ready { IsReady (opened_of found.now) header (view_of index) }
     ensures session { IfOk result (λ s. s ≡ opened_session (versioned (opened_of found.now)) header (view_of index) name.now limit budget) }
+    ensures long { 48 ≤ (opened_of found.now).root.end }
     ensures reads { IfOk result (λ s. super_at (super_bytes s.root) ≡ Ok s.root) }
 {
     let file = FileParts {

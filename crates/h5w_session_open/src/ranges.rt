@@ -304,7 +304,7 @@ fn check_each(blocks: &[Extent], chunks: &[Extent], end: u64) -> Result<(), Open
 }
 
 /// Refuses the first range that cannot stand in the file.
-fn check_ranges(
+pub fn check_ranges(
     alloc: Global,
     found: &Opening,
     index: &Result<Index, NoIndex>,
@@ -353,7 +353,11 @@ fn started_index(alloc: Global, d: &Dataset, why: NoIndex) -> Result<Index, Open
 }
 
 /// The index that was read, or a blank one.
-fn kept_index(alloc: Global, d: &Dataset, index: Result<Index, NoIndex>) -> Result<Index, OpenError>
+pub fn kept_index(
+    alloc: Global,
+    d: &Dataset,
+    index: Result<Index, NoIndex>,
+) -> Result<Index, OpenError>
     requires near { IsNear (described_of d.now) (seen view_of index) }
     ensures kept { IfOk result (λ v. IsKeptIndexOf (described_of d.now) (seen view_of index) (view_of v)) }
     ensures none { OnOk result (refused_index (described_of d.now) (seen view_of index) ≡ None) }

@@ -60,3 +60,10 @@ returns-clause-session c =
 
 pub returns-clause-reads : goal.returns-clause-reads
 returns-clause-reads c = c.over.ensures.reads
+
+pub returns-clause-long : goal.returns-clause-long
+returns-clause-long c =
+    let a = c.args in
+    let o : Opened = opened_of c.args.found.now in
+    let small : o.root.end < 2 ^ 64 = omega (arith, c.writing_super.ensures.small, ap (λ (r : Super). r.end) c.writing_super.ensures.root) in
+    (session_is o a.header (view_of a.index) a.name.now a.limit a.budget c.requires.ready c.requires.high c.requires.budget small).begun

@@ -1,0 +1,5 @@
+pub mod DatasetLemmas
+pub mod OpenLemmas
+pub mod BeginLemmas
+pub mod StandLemmas
+pub mod SessionLemmas

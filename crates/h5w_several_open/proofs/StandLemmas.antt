@@ -1,0 +1,129 @@
+-- A session of several datasets that was opened over a file that is valid for all of them stands for its log.
+use Rattle.std.proofs.Common.{◌≡◌, ◌≢◌, ℕ, suc, ◌≤◌, List, [], ◌∷◌, ◌++◌, length, refl, sym, ap, ◌∙◌, subst, inl, inr, arith, append-nil}
+use Rattle.h5w_model.specs.Images.{image}
+use Rattle.h5w_model.specs.Findings.{Used}
+use Rattle.h5w_model.specs.Logs.{Log}
+use Rattle.h5w_model.specs.Numbers.{range}
+use Rattle.h5w_model.specs.Prefixed.{PrefixedEach}
+use Rattle.h5w_model.specs.Relations.{AllPaired}
+use Rattle.h5w_model.specs.Several.{Begun, FileLog, log_of}
+use Rattle.h5w_model.specs.Superblock.{super_at}
+use Rattle.h5w_model.specs.declared.piece.Write.{Write}
+use Rattle.h5w_model.specs.declared.root.Super.{Super}
+use Rattle.h5w_model.proofs.SuperLemmas.{length-super_bytes}
+use Rattle.h5w_space.specs.Space.{Space}
+use Rattle.h5w_several_laws.specs.Together.{IsAllValid, names_of}
+use Rattle.h5w_several_laws.specs.Turns.{AreKnown, Entry, all_then, then_as}
+use Rattle.h5w_opening.proofs.FoundParts.{parts}
+use Rattle.h5w_session.specs.Loads.{end_in}
+use Rattle.h5w_session.specs.Openings.{opened_log}
+use Rattle.h5w_session.specs.PartLaws.{RunsAs, super_piece}
+use Rattle.h5w_session.specs.Sessions.{Session, AllEndBy as WritesEndBy}
+use Rattle.h5w_session.specs.Told.{told_log}
+use Rattle.h5w_session_open.specs.OpenAnswers.{IsOpenedOver}
+use Rattle.h5w_several_session_laws.specs.Seen.{IsSeen}
+use Rattle.h5w_several_session_laws.specs.Sessions.{all_pending}
+use Rattle.h5w_several_session_laws.specs.Standing.{AreStandingParts, IsDone, IsStandingPart, most_in}
+use Rattle.h5w_several_session_laws.proofs.FlushAllLemmas.{stands_all}
+use Rattle.h5w_several_session_laws.specs.Valid.{AreValidFrom}
+use Rattle.h5w_several_session_laws.proofs.SightLemmas.{seen_opened}
+use Rattle.h5w_several_session_laws.proofs.ValidLemmas.{begun_valid}
+use Rattle.h5w_several_open.specs.Answers.{HasBegunWith}
+use Rattle.h5w_several_open.specs.Begins.{BeginsPart, EachBegins, a_part, no_part}
+use Rattle.h5w_several_session.specs.Opened.{places_from, rested, sessions_over, settled}
+use Rattle.h5w_several_open.specs.Stands.{OpensStanding, opened_file}
+use Rattle.h5w_several_open.proofs.BeginLemmas.{opens_all}
+
+none_rested : (root : Super) (t : Space) (ss : List Session) → all_pending (rested root t ss) ≡ []
+none_rested root t [] = refl
+none_rested root t (s ∷ ss) = none_rested root t ss
+
+module _ (img : List ℕ) (limit budget : ℕ) (root : Super) (ranges : List Used) (all : List Begun) (left : List Write) (left_is : left ≡ super_piece root ∷ []) where
+  abbrev t : Space
+  t = places_from root.end limit
+
+  abbrev log : FileLog
+  log = opened_file img all
+
+  -- a part that was told of the superblock
+  part : (d : ℕ) (b : Begun) (name : List ℕ) (s : Session) (e : Entry) (before : List Write) (behind : List Write) (pending : List Write) → BeginsPart img name b s e → HasBegunWith limit budget root name s
+      → IsStandingPart root t ranges left log d b before (record s { root = root; places = t; pending = pending }) behind (then_as root e)
+  part d b name s e before behind pending p w =
+      let own : Log = told_log p.times (super_piece root ∷ []) (opened_log img b.columns b.values) in
+      let named : name ≡ s.name = sym w.begun.named in
+      let seen : IsSeen log d b own left = subst (IsSeen log d b own) (sym left_is) (seen_opened img all d b p.times (super_piece root ∷ [])) in
+      let by_root : RunsAs (record s { root = root; pending = [] }) [] own (then_as root e).moment e.address e.held s.places =
+      subst (λ (x : Super). RunsAs (record s { root = x; pending = [] }) [] (told_log p.times (super_piece x ∷ []) (opened_log img b.columns b.values)) (then_as x e).moment e.address e.held s.places) w.root_is p.runs in
+      let runs : RunsAs (record s { root = root; places = t; pending = [] }) [] own (then_as root e).moment e.address e.held t =
+      subst (λ (x : Space). RunsAs (record s { root = root; places = x; pending = [] }) [] own (then_as root e).moment e.address e.held x) w.places by_root in
+      let done : IsDone root t left log d b (record s { root = root; places = t; pending = pending }) (then_as root e) = record { calm = inr w.begun.flushing; own = own; seen = seen; runs = runs } in
+      record {
+        name = p.entry.name_is ∙ named;
+        early = w.begun.early;
+        going = w.begun.running;
+        each = subst (λ (n : List ℕ). PrefixedEach n (log_of d b log)) named p.prefixed;
+        phase = inl done;
+      }
+
+  later : (d : ℕ) (names : List (List ℕ)) (bs : List Begun) (ss : List Session) (es : List Entry) (before : List Write) → EachBegins img names bs ss es → AllPaired (HasBegunWith limit budget root) names ss
+      → AreStandingParts root t ranges left log d bs before (rested root t ss) (all_then root es)
+  later d _ _ _ _ before no_part h = tt
+  later d _ _ _ _ before (a_part name b s e names bs ss es p rest) h = (part d b name s e before (all_pending (rested root t ss)) [] p h.0, later (suc d) names bs ss es (before ++ []) rest h.1)
+
+  first : (names : List (List ℕ)) (bs : List Begun) (ss : List Session) (es : List Entry) → EachBegins img names bs ss es → AllPaired (HasBegunWith limit budget root) names ss
+      → AreStandingParts root t ranges left log 0 bs [] (settled root t ss) (all_then root es)
+  first _ _ _ _ no_part h = tt
+  first _ _ _ _ (a_part name b s e names bs ss es p rest) h = (part 0 b name s e [] (all_pending (rested root t ss)) s.pending p h.0, later 1 names bs ss es s.pending rest h.1)
+
+pending_of : (limit budget : ℕ) (root : Super) (t : Space) (names : List (List ℕ)) (ss : List Session) → 1 ≤ length ss → AllPaired (HasBegunWith limit budget root) names ss → all_pending (settled root t ss) ≡ super_piece root ∷ []
+pending_of limit budget root t names [] some h = absurd (omega (arith, some))
+pending_of limit budget root t [] (s ∷ ss) some h = absurd h
+pending_of limit budget root t (name ∷ names) (s ∷ ss) some h =
+    let w : HasBegunWith limit budget root name s = h.0 in
+    ap (λ (ws : List Write). s.pending ++ ws) (none_rested root t ss) ∙ append-nil s.pending ∙ w.begun.pending ∙ ap (λ (x : Super). super_piece x ∷ []) w.root_is
+
+-- the file ends where the superblock says
+end_of : (img : List ℕ) (size limit budget : ℕ) (root : Super) (names : List (List ℕ)) (ss : List Session) → 1 ≤ length ss → AllPaired (λ (name : List ℕ) (s : Session). IsOpenedOver img size name limit budget s) names ss
+    → AllPaired (HasBegunWith limit budget root) names ss → end_in (super_at (range img 0 48)) ≡ root.end
+end_of img size limit budget root names [] some x h = absurd (omega (arith, some))
+end_of img size limit budget root [] (s ∷ ss) some x h = absurd h
+end_of img size limit budget root (name ∷ names) (s ∷ ss) some x h =
+    let w : HasBegunWith limit budget root name s = h.0 in
+    let o : IsOpenedOver img size name limit budget s = x.0 in
+    ap end_in (parts img size name o.found o.is).super ∙ ap (λ (y : Session). y.root.end) (sym o.session) ∙ ap (λ (y : Super). y.end) w.root_is
+
+-- the names of the entries, of which there are as many as parts
+begun_names : (img : List ℕ) (root : Super) (names : List (List ℕ)) (bs : List Begun) (ss : List Session) (es : List Entry) → EachBegins img names bs ss es → names_of (all_then root es) ≡ names
+begun_names img root _ _ _ _ no_part = refl
+begun_names img root _ _ _ _ (a_part name b s e names bs ss es p rest) =
+    ap (λ (n : List ℕ). n ∷ names_of (all_then root es)) p.entry.name_is ∙ ap (λ (ns : List (List ℕ)). name ∷ ns) (begun_names img root names bs ss es rest)
+
+some_entries : (img : List ℕ) (root : Super) (names : List (List ℕ)) (bs : List Begun) (ss : List Session) (es : List Entry) → EachBegins img names bs ss es → 1 ≤ length ss → all_then root es ≢ []
+some_entries img root _ _ _ _ no_part some = absurd (omega (arith, some))
+some_entries img root _ _ _ _ (a_part name b s e names bs ss es p rest) some = λ none. cc
+
+pub opens_standing : OpensStanding
+opens_standing img size names summary bs ss limit budget root valid reads opened begun some low high =
+    let a = opens_all img size names summary bs ss limit budget root valid reads opened begun low high in
+    let t : Space = places_from root.end limit in
+    let left : List Write = all_pending (settled root t ss) in
+    let left_is : left ≡ super_piece root ∷ [] = pending_of limit budget root t names ss some begun in
+    let ends_at = end_of img size limit budget root names ss some opened begun in
+    let long = length-super_bytes root in
+    let es = all_then root a.entries in
+    let named = begun_names img root names bs ss a.entries a.each in
+    let none_before : IsAllValid img (names_of es) = subst (λ (ns : List (List ℕ)). IsAllValid img ns) (sym named) (summary, valid) in
+    let stays = begun_valid img bs (super_piece root) t root a.ranges es (some_entries img root names bs ss a.entries a.each some) none_before a.known a.off in
+    stands_all (sessions_over root limit ss) (opened_file img bs)
+    (record {
+      ranges = a.ranges;
+      entries = all_then root a.entries;
+      known = subst (λ (ws : List Write). AreKnown (image img ws) t root a.ranges (all_then root a.entries)) (sym left_is) a.known;
+      off = a.off;
+      blocks = a.blocks;
+      parts = first img limit budget root a.ranges bs left left_is names bs ss a.entries a.each begun;
+      fits = omega (arith, ends_at);
+      ends = subst (λ (ws : List Write). WritesEndBy (most_in t (opened_file img bs)) ws) (sym left_is) (omega (arith, long, low), tt);
+      going = refl;
+      valid = subst (λ (ws : List Write). AreValidFrom 0 img (names_of es) ws) (sym left_is) stays;
+    })

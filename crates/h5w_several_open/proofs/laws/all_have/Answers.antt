@@ -1,0 +1,5 @@
+use Rattle.h5w_several_open.proofs.laws.all_have.Goals as goal
+use Rattle.h5w_several_open.proofs.DatasetLemmas as lemmas
+
+pub returns : goal.returns
+returns c = lemmas.all_have

@@ -1,0 +1,10 @@
+//! The opening of a file by several names: one session for each dataset, over one superblock and the places of one file.
+#![tactic(auto)]
+
+mod laws;
+mod opening;
+mod session;
+
+pub use laws::{all_apart, all_have, opens_all, opens_standing};
+pub use opening::open_parts;
+pub use session::open;

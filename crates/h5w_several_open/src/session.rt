@@ -1,0 +1,56 @@
+//! One session over the datasets of a file that is opened by several names.
+ghost use Rattle.std.specs.Prelude.{◌≡◌, ◌^◌, ◌≤◌, ℕ, List, length, IfErr, IfOk, Err};
+ghost use Rattle.std.specs.List.{All};
+ghost use Rattle.h5w_model.specs.Causes.{Rose};
+ghost use Rattle.h5w_model.specs.Findings.{AllSummary, AllValid};
+ghost use Rattle.h5w_model.specs.Relations.{AllPaired};
+ghost use Rattle.h5w_model.specs.Several.{Begun};
+ghost use Rattle.h5w_image.specs.View.{Looked};
+ghost use Rattle.h5w_looks.specs.Still.{IsStill};
+ghost use Rattle.h5w_opening.specs.Errors.{IsOpenKind};
+ghost use Rattle.h5w_several_session_laws.specs.Standing.{StandsAll};
+ghost use Rattle.h5w_several_open.specs.Begins.{ReadsIt};
+ghost use Rattle.h5w_several_open.specs.Sessions.{HasBegunAll, IsSessionAnswer};
+ghost use Rattle.h5w_several_open.specs.Stands.{opened_file};
+
+use crate::opening::open_parts;
+use h5w_image::PieceRead;
+use h5w_names::Names;
+use h5w_opening::OpenError;
+use h5w_several_session::SeveralWriter;
+use std::alloc::Global;
+
+/// Opens the datasets of these names in a file of `size` bytes that is there, 1 to 8 of them: one session appends rows to all, up to `limit` bytes
+/// of the file, of which at most `budget` bytes of each dataset wait unwritten. The image is only looked at. One piece is pending, the superblock
+/// by which the file says that it is written; all its flags but these two stay. Refusals come in the order that [`open_parts`] says.
+///
+/// Failed: the image's count of faults rose.
+pub fn open<I: PieceRead>(
+    alloc: Global,
+    image: &mut I,
+    size: u64,
+    names: &Names,
+    limit: u64,
+    budget: u64,
+) -> Result<SeveralWriter, OpenError>
+    requires some { 1 ≤ length names.now }
+    requires few { length names.now ≤ 8 }
+    requires names { All (λ name. length name ≤ 512) names.now }
+    requires low { 1024 ≤ limit }
+    requires high { limit ≤ 2 ^ 40 }
+    requires budget { (1024 ≤ budget) × (budget ≤ 2 ^ 30) }
+    ensures looked { Looked (I.view image.old) (I.view image.new) }
+    ensures cause { result ≡ Err OpenError.Failed → Rose (I.view image.old).faults (I.view image.new).faults }
+    // on every image a Read is none of NotSwmr, Again, Shrunk and OutOfMemory
+    ensures kinds { IfErr result IsOpenKind }
+    // where the image tells its bytes and nobody else writes it
+    ensures exact { (img : List ℕ) → IsStill (I.view image.old) img → IsSessionAnswer img size names.now limit budget result }
+    // on every image
+    ensures begun { IfOk result (HasBegunAll names.now limit budget) }
+    // where the file is valid for all names, the session stands for the log over it to which nothing happened yet
+    ensures stands { IfOk result (λ s. (img : List ℕ) (t : AllSummary) (sets : List Begun) → IsStill (I.view image.old) img → AllValid img names.now t → AllPaired (ReadsIt img) names.now sets → StandsAll s (opened_file img sets)) }
+{
+    let parts = open_parts(alloc, image, size, names, limit, budget)?;
+    let root = parts[0].root();
+    Ok(SeveralWriter::over(parts, root, limit))
+}
