@@ -358,34 +358,44 @@ h5w_told h5swmr_keep_retired(h5swmr_writer *writer)
     return writer ? h5w_writer_keep_retired(&writer->core) : misuse();
 }
 
-/* What a call of the core comes to once its pieces are written: nothing is pending behind it. */
-static h5w_told written(h5swmr_writer *writer, h5w_told told)
+/* What a call of the core comes to once its pieces are written: nothing is pending behind it. The line of a refusal is kept. */
+static h5w_told written(h5swmr_writer *writer, h5w_told told, const uint8_t *text)
 {
-    h5w_told done = told.code == H5W_OK ? put_all(writer) : told;
+    if (told.code != H5W_OK) {
+        keep_line(text);
+        return told;
+    }
+    h5w_told done = put_all(writer);
     return done.code == H5W_OK ? told : done;
 }
 
 h5w_told h5swmr_append(h5swmr_writer *writer, const int64_t *values, size_t n)
 {
     static const int64_t none;
+    uint8_t text[LINE] = { 0 };
     if (!writer || (!values && n))
         return misuse();
-    return written(writer, h5w_writer_append(&writer->core, values ? values : &none, n));
+    h5w_told told = h5w_writer_append(&writer->core, values ? values : &none, n, text, sizeof text);
+    return written(writer, told, text);
 }
 
 h5w_told h5swmr_append_u64(h5swmr_writer *writer, const uint64_t *values, size_t n)
 {
     static const uint64_t none;
+    uint8_t text[LINE] = { 0 };
     if (!writer || (!values && n))
         return misuse();
-    return written(writer, h5w_writer_append_u64(&writer->core, values ? values : &none, n));
+    h5w_told told = h5w_writer_append_u64(&writer->core, values ? values : &none, n, text, sizeof text);
+    return written(writer, told, text);
 }
 
 h5w_told h5swmr_flush(h5swmr_writer *writer)
 {
+    uint8_t text[LINE] = { 0 };
     if (!writer)
         return misuse();
-    h5w_told told = written(writer, h5w_writer_flush(&writer->core));
+    h5w_told told = h5w_writer_flush(&writer->core, text, sizeof text);
+    told = written(writer, told, text);
     return told.code == H5W_OK ? tell(H5W_OK, 0, h5w_writer_rows(&writer->core)) : told;
 }
 
@@ -405,8 +415,10 @@ h5w_told h5swmr_close_writer(h5swmr_writer **out)
         return misuse();
     h5swmr_writer *writer = *out;
     *out = NULL;
+    uint8_t text[LINE] = { 0 };
     h5w_told told = h5swmr_flush(writer);
-    h5w_told done = written(writer, h5w_writer_close(&writer->core));
+    h5w_told done = h5w_writer_close(&writer->core, text, sizeof text);
+    done = written(writer, done, text); /* (behind a refused flush its line stays) */
     return drop_writer(writer, told.code == H5W_OK ? done : told);
 }
 

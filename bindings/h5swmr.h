@@ -174,12 +174,16 @@ h5w_told h5w_writer_create(h5w_writer *, const uint8_t *name, size_t len, const 
 h5w_told h5w_writer_open(h5w_writer *, const uint8_t *bytes, size_t size, const uint8_t *name, size_t len, uint64_t limit, uint64_t budget, uint8_t *text, size_t n);
 
 /* Appends whole rows, whose values stand one behind another: OK (count: rows in all), ROWS, STOPPED, BUSY, RANGE, CHUNKS, MEMORY or MISUSE.
- * A refusal appends nothing. C owes: pieces may be pending behind it, and are written before the next append, flush or close. */
-h5w_told h5w_writer_append(h5w_writer *, const int64_t *values, size_t n);
-h5w_told h5w_writer_append_u64(h5w_writer *, const uint64_t *values, size_t n);
+ * A refusal appends nothing. The line that the program prints of it goes to the front of `text`, as much of it as has room; it ends with a newline.
+ * It is that of an input whose first line has these values: `error range 1 2 128`. Of STOPPED and BUSY it is what a script is answered: `stopped`,
+ * `busy 3`. Where memory is refused for the line, and behind OK and MISUSE, `text` stays. C owes: pieces may be pending behind it, and are written
+ * before the next append, flush or close; `text` has room for `room` bytes. */
+h5w_told h5w_writer_append(h5w_writer *, const int64_t *values, size_t n, uint8_t *text, size_t room);
+h5w_told h5w_writer_append_u64(h5w_writer *, const uint64_t *values, size_t n, uint8_t *text, size_t room);
 
-/* Plans the pieces that make the appended rows visible: OK (count: pieces are pending), STOPPED, BUSY, FULL, MEMORY or MISUSE. */
-h5w_told h5w_writer_flush(h5w_writer *);
+/* Plans the pieces that make the appended rows visible: OK (count: pieces are pending), STOPPED, BUSY, FULL, MEMORY or MISUSE. A refusal has its
+ * line in `text`, as an append. */
+h5w_told h5w_writer_flush(h5w_writer *, uint8_t *text, size_t room);
 
 /* The oldest pending piece and its place; false where none is pending or n is less than its bytes: give room for 512. C owes: it is written
  * at its place, whole, and before the next one, and nobody else writes the file. */
@@ -193,8 +197,8 @@ h5w_told h5w_writer_written(h5w_writer *);
 h5w_told h5w_writer_failed(h5w_writer *);
 
 /* Plans the last piece, which clears the flags of a writer: OK (count: 1 piece is pending), STOPPED, BUSY or MISUSE. Rows that no flush has
- * planned are dropped. C owes: the piece is written. */
-h5w_told h5w_writer_close(h5w_writer *);
+ * planned are dropped. A refusal has its line in `text`, as an append. C owes: the piece is written. */
+h5w_told h5w_writer_close(h5w_writer *, uint8_t *text, size_t room);
 
 /* Keeps the places of old blocks out of use, as HDF5's own library wants it of a writer that it reads beside: OK or MISUSE. */
 h5w_told h5w_writer_keep_retired(h5w_writer *);
@@ -276,7 +280,8 @@ h5w_told h5swmr_close_writer(h5swmr_writer **);
 const char *h5swmr_text(h5w_told);
 
 /* The line that the program would print of it, as `error damaged 106 sum 706dc316 4187dd3f` (docs/FORMAT.md has all), if the last call of a
- * handle on this thread that answered AGAIN, SHRUNK, REFUSED or OPENED had one; else "". It is there until the next such call. */
+ * handle on this thread that answered AGAIN, SHRUNK, REFUSED or OPENED had one; so of ROWS, RANGE, CHUNKS, FULL and STOPPED of an append, flush or
+ * close, as h5w_writer_append has it. Else "". It is there until the next such call. */
 const char *h5swmr_line(void);
 
 #ifdef __cplusplus

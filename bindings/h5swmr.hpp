@@ -11,16 +11,28 @@
 
 namespace h5swmr {
 
-// A refusal, with all that the call told, and the line that the program would print of a file that it cannot read; else it is empty.
+// A refusal, with all that the call told, and the line that the program would print of a file that it cannot read, or of rows that it cannot write;
+// else it is empty.
 class error : public std::runtime_error {
-    static bool has_line(h5w_told told) { return told.code == H5W_AGAIN || told.code == H5W_SHRUNK || told.code == H5W_REFUSED || told.code == H5W_OPENED; }
+    // (ROWS and RANGE have one of an append, and none of a read)
+    static bool has_line(const std::string &call, h5w_told told)
+    {
+        switch (told.code) {
+        case H5W_AGAIN: case H5W_SHRUNK: case H5W_REFUSED: case H5W_STOPPED: case H5W_CHUNKS: case H5W_FULL: case H5W_OPENED:
+            return true;
+        case H5W_ROWS: case H5W_RANGE:
+            return call == "append";
+        default:
+            return false;
+        }
+    }
 
 public:
     const h5w_told told;
     const std::string line;
 
     error(const char *call, h5w_told told)
-        : std::runtime_error(std::string(call) + ": " + h5swmr_text(told) + " (code " + std::to_string(told.code) + ", detail " + std::to_string(told.detail) + ", count " + std::to_string(told.count) + ")"), told(told), line(has_line(told) ? h5swmr_line() : "")
+        : std::runtime_error(std::string(call) + ": " + h5swmr_text(told) + " (code " + std::to_string(told.code) + ", detail " + std::to_string(told.detail) + ", count " + std::to_string(told.count) + ")"), told(told), line(has_line(call, told) ? h5swmr_line() : "")
     {
     }
 };

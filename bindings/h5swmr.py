@@ -27,7 +27,7 @@ except ImportError:
 
 __all__ = ["Again", "Error", "Reader", "Shape", "Writer", "append_to", "create"]
 
-OK, AGAIN, SHRUNK, REFUSED, OPENED, IO = 0, 3, 4, 5, 14, 64
+OK, AGAIN, SHRUNK, REFUSED, ROWS, STOPPED, RANGE, CHUNKS, FULL, OPENED, IO = 0, 3, 4, 5, 8, 10, 11, 12, 13, 14, 64
 LIMIT, BUDGET = 1 << 40, 65536
 HERE = os.path.dirname(os.path.realpath(__file__))
 
@@ -93,12 +93,18 @@ _library = library()
 _calls = {it: call_of(_library, it) for it in CALLS}
 
 
+def has_line(call, code):
+    """Whether a refusal has the line that the program would print. ROWS and RANGE have one of an append, and none of a read."""
+    return code in (AGAIN, SHRUNK, REFUSED, STOPPED, CHUNKS, FULL, OPENED) or (call.startswith("append") and code in (ROWS, RANGE))
+
+
 class Error(OSError):
-    """A refused call: its `code`, `detail` and `count` as h5swmr.h tells them. `line` is what the program would print
-    of a file that it cannot read, and else empty. Of a failed call of the system `errno` is its number."""
+    """A refused call: its `code`, `detail` and `count` as h5swmr.h tells them. `line` is what the program would print of a
+    file that it cannot read, or of rows that it cannot write, and else empty. Of a failed call of the system `errno` is its
+    number."""
 
     def __init__(self, call, told):
-        line = _calls["line"]().decode() if told.code in (AGAIN, SHRUNK, REFUSED, OPENED) else ""
+        line = _calls["line"]().decode() if has_line(call, told.code) else ""
         super().__init__(f"{call}: {_calls['text'](told).decode()} (code {told.code}, detail {told.detail}, count {told.count}){line and ': '}{line}")
         self.call, self.code, self.detail, self.count, self.line = call, told.code, told.detail, told.count, line
         self.errno = told.detail if told.code == IO else None

@@ -111,6 +111,7 @@ static uint64_t write_all(const char *file)
         uint32_t code = writer ? H5W_STOPPED : H5W_MISUSE;
         want("errno", told.detail, ENOSPC);
         want_code("append after a failed write", h5swmr_append(writer, values, 1), code);
+        want("its line", !writer || !strcmp(h5swmr_line(), "stopped"), true);
         want_code("flush after a failed write", h5swmr_flush(writer), code);
         want_code("close after a failed write", h5swmr_close_writer(&writer), code);
     } else

@@ -6,6 +6,17 @@
 
 static const uint8_t NAME[] = "data";
 
+/* The line of a writer's last refusal. */
+static uint8_t line[64];
+#define TEXT line, sizeof line
+
+/* The line of the call before is this one, which is taken away. */
+static void want_line(const char *what, const char *wanted)
+{
+    want(what, (uint64_t)memcmp(line, wanted, strlen(wanted) + 1), 0);
+    memset(line, 0, sizeof line);
+}
+
 /* A reader's core that is not open, or was closed. */
 static void empty_reader(h5w_reader *reader)
 {
@@ -70,15 +81,16 @@ static void empty_writer(h5w_writer *writer)
     const int64_t value = 1;
     const uint64_t other = 1;
     h5w_place place = { 1, 2 };
-    want_code("append", h5w_writer_append(writer, &value, 1), H5W_MISUSE);
-    want_code("append_u64", h5w_writer_append_u64(writer, &other, 1), H5W_MISUSE);
-    want_code("flush", h5w_writer_flush(writer), H5W_MISUSE);
+    want_code("append", h5w_writer_append(writer, &value, 1, TEXT), H5W_MISUSE);
+    want_code("append_u64", h5w_writer_append_u64(writer, &other, 1, TEXT), H5W_MISUSE);
+    want_code("flush", h5w_writer_flush(writer, TEXT), H5W_MISUSE);
     want("next", h5w_writer_next(writer, bytes, sizeof bytes, &place), false);
     want("place", place.at + place.len, 3);
     want_code("written", h5w_writer_written(writer), H5W_MISUSE);
     want_code("failed", h5w_writer_failed(writer), H5W_MISUSE);
     want_code("keep_retired", h5w_writer_keep_retired(writer), H5W_MISUSE);
-    want_code("close", h5w_writer_close(writer), H5W_MISUSE);
+    want_code("close", h5w_writer_close(writer, TEXT), H5W_MISUSE);
+    want_line("no line of misuse", "");
     want("rows and columns", h5w_writer_rows(writer) + h5w_writer_columns(writer), 0);
     h5w_writer_free(writer);
     want("live", writer->live, 0);
@@ -110,6 +122,16 @@ static void wrong_options(h5w_writer *writer)
     want_code("create with chunks that are wider than fixed columns", h5w_writer_create(writer, NAME, 4, &how), H5W_MISUSE);
 }
 
+/* A line goes where there is room for it, and no further. */
+static void little_room(h5w_writer *writer)
+{
+    int64_t values[3] = { 1, -2, 128 };
+    want_code("append with little room", h5w_writer_append(writer, values, 3, line, 5), H5W_RANGE);
+    want_line("the line in little room", "error");
+    want_code("append without room", h5w_writer_append(writer, values, 3, line, 0), H5W_RANGE);
+    want_line("no line without room", "");
+}
+
 /* Takes all pending pieces as written. */
 static void show(h5w_writer *writer)
 {
@@ -131,22 +153,37 @@ static void writer_core(void)
     empty_writer(&writer);
     wrong_options(&writer);
     how.size = 1;
-    want("pieces", want_code("create", h5w_writer_create(&writer, NAME, 4, &how), H5W_OK).count > 1, true);
+    h5w_told pieces = want_code("create", h5w_writer_create(&writer, NAME, 4, &how), H5W_OK);
+    char busy[64];
+    want("pieces", pieces.count > 1, true);
     want_code("create again", h5w_writer_create(&writer, NAME, 4, &how), H5W_BUSY);
-    want_code("append while pieces are pending", h5w_writer_append(&writer, values, 1), H5W_BUSY);
+    snprintf(busy, sizeof busy, "busy %" PRIu64 "\n", pieces.count);
+    want_code("append while pieces are pending", h5w_writer_append(&writer, values, 1, TEXT), H5W_BUSY);
+    want_line("the line of pieces before an append", busy);
+    want_code("flush while pieces are pending", h5w_writer_flush(&writer, TEXT), H5W_BUSY);
+    want_line("the line of pieces before a flush", busy);
     want("next with little room", h5w_writer_next(&writer, bytes, 0, &place), false);
     want("place", place.at + place.len, 3);
     show(&writer);
     want_code("written of nothing", h5w_writer_written(&writer), H5W_MISUSE);
-    want("the value outside", want_code("append", h5w_writer_append(&writer, values, 3), H5W_RANGE).count, 2);
+    want("the value outside", want_code("append", h5w_writer_append(&writer, values, 3, TEXT), H5W_RANGE).count, 2);
+    want_line("its line", "error range 1 2 128\n");
+    little_room(&writer);
     want("rows after a refusal", h5w_writer_rows(&writer), 0);
-    want("rows", want_code("append", h5w_writer_append(&writer, values, 2), H5W_OK).count, 2);
-    want("pieces of a flush", want_code("flush", h5w_writer_flush(&writer), H5W_OK).count > 1, true);
-    want_code("close while pieces are pending", h5w_writer_close(&writer), H5W_BUSY);
+    want("rows", want_code("append", h5w_writer_append(&writer, values, 2, TEXT), H5W_OK).count, 2);
+    pieces = want_code("flush", h5w_writer_flush(&writer, TEXT), H5W_OK);
+    want("pieces of a flush", pieces.count > 1, true);
+    want_line("no line of what is done", "");
+    snprintf(busy, sizeof busy, "busy %" PRIu64 "\n", pieces.count);
+    want_code("close while pieces are pending", h5w_writer_close(&writer, TEXT), H5W_BUSY);
+    want_line("the line of pieces before a close", busy);
     want_code("failed", h5w_writer_failed(&writer), H5W_OK);
-    want_code("append after a failure", h5w_writer_append(&writer, values, 1), H5W_STOPPED);
-    want_code("flush after a failure", h5w_writer_flush(&writer), H5W_STOPPED);
-    want_code("close after a failure", h5w_writer_close(&writer), H5W_STOPPED);
+    want_code("append after a failure", h5w_writer_append(&writer, values, 1, TEXT), H5W_STOPPED);
+    want_line("the line of an append behind it", "stopped\n");
+    want_code("flush after a failure", h5w_writer_flush(&writer, TEXT), H5W_STOPPED);
+    want_line("the line of a flush behind it", "stopped\n");
+    want_code("close after a failure", h5w_writer_close(&writer, TEXT), H5W_STOPPED);
+    want_line("the line of a close behind it", "stopped\n");
     h5w_writer_free(&writer);
     empty_writer(&writer);
     memset(bytes, 0, sizeof bytes);
@@ -207,7 +244,9 @@ static void files(const char *file)
     want("flags of a writer", want_code("append_to beside a writer", h5swmr_append_to(&second, file, "data", how.limit, how.budget), H5W_OPENED).detail, H5W_WRITER);
     want("the program's line", (uint64_t)strcmp(h5swmr_line(), "error flags 5"), 0);
     want("columns", want_code("append of half a row", h5swmr_append_u64(writer, values, 3), H5W_ROWS).count, 2);
+    want("the program's line", (uint64_t)strcmp(h5swmr_line(), "error line 1"), 0);
     want("the value below", want_code("append of a value below the type", h5swmr_append(writer, below, 2), H5W_RANGE).count, 1);
+    want("the program's line", (uint64_t)strcmp(h5swmr_line(), "error range 1 1 -1"), 0);
     want("rows", want_code("append of nothing", h5swmr_append(writer, NULL, 0), H5W_OK).count, 0);
     want("rows", want_code("append", h5swmr_append_u64(writer, values, 4), H5W_OK).count, 2);
     want_code("append of NULL", h5swmr_append(writer, NULL, 2), H5W_MISUSE);

@@ -44,12 +44,19 @@ pub extern "C" fn h5w_writer_open(
 }
 
 /// Appends values, rows one after another. Answers Done with the rows in all, Rows with the columns if they are no whole rows, Stopped, Busy with
-/// the pieces that are pending, Range, Chunks, Memory or Misuse. Rows past the budget are written early: pieces may be pending then.
+/// the pieces that are pending, Range, Chunks, Memory or Misuse. Rows past the budget are written early: pieces may be pending then. The line that
+/// the program prints of a refusal goes to the front of `text`, as much of it as there is room for, with the byte 0a at its end: as of an input whose
+/// first line has these values. Of Stopped and Busy it is the reply of a script. `text` stays as it was behind Done and Misuse.
 #[unsafe(no_mangle)]
-pub extern "C" fn h5w_writer_append(alloc: Global, writer: &mut Handle, values: &[i64]) -> H5wTold
-    ensures { OnWriter misuse (Appended values.now) writer.old.at.held result writer.new.at.held }
+pub extern "C" fn h5w_writer_append(
+    alloc: Global,
+    writer: &mut Handle,
+    values: &[i64],
+    text: &mut [u8],
+) -> H5wTold
+    ensures { OnWriter (misuse, text.old) (Appended values.now text.old) writer.old.at.held (result, text.new) writer.new.at.held }
 {
-    calls::append(writer, alloc, values)
+    calls::append(writer, alloc, values, text)
 }
 
 /// The same of values from 0 on.
@@ -58,19 +65,20 @@ pub extern "C" fn h5w_writer_append_u64(
     alloc: Global,
     writer: &mut Handle,
     values: &[u64],
+    text: &mut [u8],
 ) -> H5wTold
-    ensures { OnWriter misuse (Appended (map pos values.now)) writer.old.at.held result writer.new.at.held }
+    ensures { OnWriter (misuse, text.old) (Appended (map pos values.now) text.old) writer.old.at.held (result, text.new) writer.new.at.held }
 {
-    calls::append_unsigned(writer, alloc, values)
+    calls::append_unsigned(writer, alloc, values, text)
 }
 
 /// Plans the pieces that make the rows that wait visible. Answers Done with their number, Stopped, Busy with the pieces that are pending, Full,
-/// Memory or Misuse.
+/// Memory or Misuse. The line of a refusal goes to `text`, as of an append.
 #[unsafe(no_mangle)]
-pub extern "C" fn h5w_writer_flush(alloc: Global, writer: &mut Handle) -> H5wTold
-    ensures { OnWriter misuse Flushed writer.old.at.held result writer.new.at.held }
+pub extern "C" fn h5w_writer_flush(alloc: Global, writer: &mut Handle, text: &mut [u8]) -> H5wTold
+    ensures { OnWriter (misuse, text.old) (Flushed text.old) writer.old.at.held (result, text.new) writer.new.at.held }
 {
-    calls::flush(writer, alloc)
+    calls::flush(writer, alloc, text)
 }
 
 /// The oldest pending piece goes to the front of `out`, and where it is to be written into `place`; false where no piece is pending, or `out` is
@@ -111,12 +119,12 @@ pub extern "C" fn h5w_writer_failed(alloc: Global, writer: &mut Handle) -> H5wTo
 }
 
 /// Plans the superblock of a file that nobody writes, as one pending piece; the session is stopped. Rows that wait stay unwritten. Answers Done
-/// with the piece, Stopped, Busy with the pieces that are pending, or Misuse.
+/// with the piece, Stopped, Busy with the pieces that are pending, or Misuse. The line of a refusal goes to `text`, as of an append.
 #[unsafe(no_mangle)]
-pub extern "C" fn h5w_writer_close(alloc: Global, writer: &mut Handle) -> H5wTold
-    ensures { OnWriter misuse Closed writer.old.at.held result writer.new.at.held }
+pub extern "C" fn h5w_writer_close(alloc: Global, writer: &mut Handle, text: &mut [u8]) -> H5wTold
+    ensures { OnWriter (misuse, text.old) (Closed text.old) writer.old.at.held (result, text.new) writer.new.at.held }
 {
-    calls::close(writer, alloc)
+    calls::close(writer, alloc, text)
 }
 
 /// No place is used again from now on. Answers Done or Misuse.

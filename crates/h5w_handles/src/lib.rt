@@ -22,4 +22,4 @@ pub use owner::Owner;
 pub use reader::ReaderState;
 pub use shape::H5wShape;
 pub use telling::refusal_told;
-pub use text::put_line;
+pub use text::{put_line, put_text};

@@ -16,7 +16,7 @@ fn first(text: &[u8], most: usize) -> &[u8]
 }
 
 /// Puts a text at the front of `out`, as much of it as there is room for.
-fn put(text: &[u8], out: &mut [u8])
+pub fn put_text(text: &[u8], out: &mut [u8])
     ensures { out.new ≡ laid text.now out.old }
 {
     let part = first(text, out.len());
@@ -32,7 +32,7 @@ pub fn put_line(alloc: Global, error: &ErrorLine, out: &mut [u8]) -> u64
     if write_error(&mut line, error).is_err() {
         return 0;
     }
-    put(&line, out);
+    put_text(&line, out);
     line.len() as u64
 }
 

@@ -12,7 +12,8 @@ use Rattle.h5w_looks.specs.Still.{IsStill}
 use Rattle.h5w_opening.specs.Errors.{IsOpenKind}
 use Rattle.h5w_opening.specs.declared.error.OpenError.{OpenError}
 use Rattle.h5w_opening.specs.declared.error.OpenError.TheVariants as failing
-use Rattle.h5w_session.specs.Creations.{IsCreated, new_file}
+use Rattle.h5w_session.specs.Creations.{IsCreated}
+use Rattle.h5w_form.specs.NewFiles.{new_file}
 use Rattle.h5w_session.specs.Openings.{opened_log}
 use Rattle.h5w_session.specs.Sessions.{Session}
 use Rattle.h5w_session.specs.Stands.{Stands}

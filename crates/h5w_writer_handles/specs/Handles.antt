@@ -8,20 +8,21 @@ use Rattle.h5w_text.specs.Errors.{error_text}
 use Rattle.h5w_opening.specs.Errors.{IsOpenKind}
 use Rattle.h5w_opening.specs.declared.error.OpenError.{OpenError}
 use Rattle.h5w_opening.specs.declared.error.OpenError.TheVariants as failing
-use Rattle.h5w_session.specs.Creations.{IsCreated, new_file}
+use Rattle.h5w_session.specs.Creations.{IsCreated}
+use Rattle.h5w_form.specs.NewFiles.{new_file}
 use Rattle.h5w_session.specs.Openings.{opened_log}
 use Rattle.h5w_session.specs.Sessions.{Session}
 use Rattle.h5w_session.specs.Stands.{Stands}
 use Rattle.h5w_session_open.specs.OpenAnswers.{HasBegun, IsOpenAnswer}
+use Rattle.h5w_writer_lines.specs.Lines.{open_line}
 use Rattle.h5w_handles.specs.Codes.{busy, misuse, no_memory, told}
 use Rattle.h5w_handles.specs.Handles.{has_writer}
-use Rattle.h5w_handles.specs.Texts.{laid}
 use Rattle.h5w_handles.specs.declared.code.H5wCode.TheVariants as codes
 use Rattle.h5w_handles.specs.declared.code.H5wTold.{H5wTold}
 use Rattle.h5w_handles.specs.declared.held.Held.{Held}
 use Rattle.h5w_handles.specs.declared.held.Held.TheVariants.{Writer}
 use Rattle.h5w_writer_handles.specs.CreatedBy.{options_of}
-use Rattle.h5w_writer_handles.specs.Tellings.{open_line, open_told}
+use Rattle.h5w_writer_handles.specs.Tellings.{PutsLine, open_told}
 use Rattle.h5w_writer_handles.specs.declared.options.H5wOptions.{H5wOptions}
 
 -- A call of a writer: where the handle holds one, this is so of its session, of the answer and of the session that the handle holds then. Of a
@@ -65,7 +66,7 @@ pub record IsOpened (bytes name : List ℕ) (limit budget : ℕ) (given : Result
 
 -- why a file is not opened is told, and its line is put; or memory is wanting for the line, which is not put
 abbrev pub Refuses : OpenError → (text : List ℕ) → H5wTold → List ℕ → Type 0
-Refuses e text answer left = (answer ≡ open_told e) × ((left ≡ laid (error_text (open_line e)) text) ⊎ (left ≡ text))
+Refuses e text answer left = (answer ≡ open_told e) × PutsLine (error_text (open_line e)) text left
 
 -- A session is held from now on, and no text is put; or it is told why the file is not opened, and nothing is held.
 abbrev pub TellsOpen : Result Session OpenError → (text : List ℕ) → H5wTold → List ℕ → Option Held → Type 0

@@ -1,4 +1,5 @@
 -- What a session's answers are told as.
+use Rattle.std.specs.Prelude.{◌≡◌, ◌⊎◌, ℕ, List}
 use Rattle.h5w_opening.specs.declared.error.OpenError.{OpenError}
 use Rattle.h5w_opening.specs.declared.error.OpenError.TheVariants as opens
 use Rattle.h5w_session.specs.declared.refusal.AppendError.{AppendError}
@@ -7,11 +8,9 @@ use Rattle.h5w_session.specs.declared.refusal.CloseError.{CloseError}
 use Rattle.h5w_session.specs.declared.refusal.CloseError.TheVariants as closes
 use Rattle.h5w_session.specs.declared.refusal.FlushError.{FlushError}
 use Rattle.h5w_session.specs.declared.refusal.FlushError.TheVariants as flushes
-use Rattle.h5w_model.specs.declared.refusal.ReadError.TheVariants.{NotSwmr}
-use Rattle.h5w_text.specs.declared.error.ErrorLine.{ErrorLine}
-use Rattle.h5w_text.specs.declared.error.ErrorLine.TheVariants as lines
 use Rattle.h5w_handles.specs.Codes.{no_memory, told}
 use Rattle.h5w_handles.specs.ReaderTellings.{refusal_told}
+use Rattle.h5w_handles.specs.Texts.{laid}
 use Rattle.h5w_handles.specs.declared.code.H5wCode.TheVariants as codes
 use Rattle.h5w_handles.specs.declared.code.H5wTold.{H5wTold}
 
@@ -26,22 +25,10 @@ open_told (opens.Cut end size) = told codes.Opened 3 end
 open_told opens.Layout = told codes.Opened 4 0
 open_told (opens.ChunkBytes bytes limit) = told codes.Opened 5 bytes
 open_told opens.NoColumns = told codes.Opened 6 0
+open_told (opens.Same first second) = told codes.Opened 7 second
 open_told (opens.Finding kind at) = told codes.Opened kind at
 open_told opens.Failed = no_memory
 open_told opens.OutOfMemory = no_memory
-
--- the line that the program prints of it
-abbrev pub open_line : OpenError → ErrorLine
-open_line (opens.Read e) = lines.Read e
-open_line (opens.Version version) = lines.WriterVersion version
-open_line (opens.Flags flags) = lines.Read (NotSwmr flags)
-open_line (opens.Cut end size) = lines.Cut end size
-open_line opens.Layout = lines.Layout
-open_line (opens.ChunkBytes bytes limit) = lines.ChunkBytes bytes
-open_line opens.NoColumns = lines.NoColumns
-open_line (opens.Finding kind at) = lines.Finding kind at
-open_line opens.Failed = lines.Disk
-open_line opens.OutOfMemory = lines.Memory
 
 -- why rows are not appended
 abbrev pub append_told : AppendError → H5wTold
@@ -65,3 +52,7 @@ flush_told flushes.OutOfMemory = no_memory
 abbrev pub close_told : CloseError → H5wTold
 close_told closes.Stopped = told codes.Stopped 0 0
 close_told (closes.Busy pending) = told codes.Busy 0 pending
+
+-- a line is put in front of a text, as much of it as there is room for; or memory is wanting for it, and the text stays
+abbrev pub PutsLine : (line text left : List ℕ) → Type 0
+PutsLine line text left = (left ≡ laid line text) ⊎ (left ≡ text)

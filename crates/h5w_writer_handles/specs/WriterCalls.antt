@@ -17,8 +17,12 @@ use Rattle.h5w_session.specs.declared.refusal.AppendError.TheVariants as appendi
 use Rattle.h5w_session.specs.declared.refusal.CloseError.{CloseError}
 use Rattle.h5w_session.specs.declared.refusal.FlushError.{FlushError}
 use Rattle.h5w_session.specs.declared.refusal.FlushError.TheVariants as flushing
+use Rattle.h5w_text.specs.Errors.{error_text}
+use Rattle.h5w_text.specs.declared.error.ErrorLine.TheVariants as lines
+use Rattle.h5w_writer_lines.specs.Lines.{append_line, close_line, flush_line, line_text}
+use Rattle.h5w_writer_lines.specs.declared.lines.WriterLine.{WriterLine}
 use Rattle.h5w_handles.specs.Codes.{misuse, no_memory, told}
-use Rattle.h5w_writer_handles.specs.Tellings.{append_told, close_told, flush_told}
+use Rattle.h5w_writer_handles.specs.Tellings.{PutsLine, append_told, close_told, flush_told}
 use Rattle.h5w_handles.specs.declared.code.H5wCode.TheVariants as codes
 use Rattle.h5w_handles.specs.declared.code.H5wPlace.{H5wPlace}
 use Rattle.h5w_handles.specs.declared.code.H5wTold.{H5wTold}
@@ -28,12 +32,19 @@ abbrev pub answered : {E : Type 0} → (E → H5wTold) → Result ℕ E → H5wT
 answered why (Ok n) = told codes.Done 0 n
 answered why (Err e) = why e
 
+-- the line of a refusal is put; else the text stays
+abbrev pub TellsLine : {E : Type 0} → (E → WriterLine) → Result ℕ E → (text left : List ℕ) → Type 0
+TellsLine why (Ok n) text left = left ≡ text
+TellsLine why (Err e) text left = PutsLine (line_text (why e)) text left
+
 -- ---- Append
 
--- What appends whole rows: the session's answer is told, with the rows in all. Rows that were written early are pending.
-pub record AppendedRows (values : List ℤ) (s : Session) (answer : H5wTold) (t : Session) : Type 0 where
+-- What appends whole rows: the session's answer is told, with the rows in all. Rows that were written early are pending. The line of a refusal
+-- is that of an input whose first line has these values.
+pub record AppendedRows (values : List ℤ) (text : List ℕ) (s : Session) (answer : H5wTold × List ℕ) (t : Session) : Type 0 where
   pub given : Result ℕ AppendError
-  pub told : answer ≡ answered append_told given
+  pub told : answer.0 ≡ answered append_told given
+  pub line : TellsLine (append_line 1) given text answer.1
   pub added : OnOk given (AddsValues s values t)
   pub written : OnOk given (WrittenEarly (with_values s values) t)
   pub within : OnOk given (IsWithin t)
@@ -47,17 +58,19 @@ pub record AppendedRows (values : List ℤ) (s : Session) (answer : H5wTold) (t 
   pub causes : IfErr given (λ e. (append_refusal s values ≡ Some e) ⊎ (e ≡ appending.OutOfMemory))
   pub kept : OnErr given (t ≡ s)
 
--- Values that are no whole rows are refused with the columns. Of others memory may be wanting before the session is asked.
-pub record Appended (values : List ℤ) (s : Session) (answer : H5wTold) (t : Session) : Type 0 where
-  pub partial : 0 < length values % s.dataset.shape.cols → (answer ≡ told codes.Rows 0 s.dataset.shape.cols) × (t ≡ s)
-  pub whole : length values % s.dataset.shape.cols ≡ 0 → ((answer ≡ no_memory) × (t ≡ s)) ⊎ AppendedRows values s answer t
+-- Values that are no whole rows are refused with the columns, and as a line outside the grammar. Of others memory may be wanting before the
+-- session is asked.
+pub record Appended (values : List ℤ) (text : List ℕ) (s : Session) (answer : H5wTold × List ℕ) (t : Session) : Type 0 where
+  pub partial : 0 < length values % s.dataset.shape.cols → (answer.0 ≡ told codes.Rows 0 s.dataset.shape.cols) × PutsLine (error_text (lines.Line 1)) text answer.1 × (t ≡ s)
+  pub whole : length values % s.dataset.shape.cols ≡ 0 → ((answer.0 ≡ no_memory) × PutsLine (error_text lines.Memory) text answer.1 × (t ≡ s)) ⊎ AppendedRows values text s answer t
 
 -- ---- Flush
 
--- The session's answer is told, with the pieces that are pending.
-pub record Flushed (s : Session) (answer : H5wTold) (t : Session) : Type 0 where
+-- The session's answer is told, with the pieces that are pending, or the line of a refusal.
+pub record Flushed (text : List ℕ) (s : Session) (answer : H5wTold × List ℕ) (t : Session) : Type 0 where
   pub given : Result ℕ FlushError
-  pub told : answer ≡ answered flush_told given
+  pub told : answer.0 ≡ answered flush_told given
+  pub line : TellsLine flush_line given text answer.1
   pub flushed : OnOk given (TakesRows s t)
   pub planned : 0 < s.waits → OnOk given (HasFlushed s t)
   pub pieces : IfOk given (λ pieces. pieces ≡ length t.pending)
@@ -108,9 +121,9 @@ pub record Failed (s : Session) (answer : H5wTold) (t : Session) : Type 0 where
 -- ---- The end
 
 -- The session is closed, with one piece pending, unless it was stopped or pieces are pending.
-pub record Closed (s : Session) (answer : H5wTold) (t : Session) : Type 0 where
-  pub refused : (e : CloseError) → close_refusal s ≡ Some e → (answer ≡ close_told e) × (t ≡ s)
-  pub closed : close_refusal s ≡ None → (answer ≡ told codes.Done 0 (length t.pending)) × (t ≡ closed_of s)
+pub record Closed (text : List ℕ) (s : Session) (answer : H5wTold × List ℕ) (t : Session) : Type 0 where
+  pub refused : (e : CloseError) → close_refusal s ≡ Some e → (answer.0 ≡ close_told e) × PutsLine (line_text (close_line e)) text answer.1 × (t ≡ s)
+  pub closed : close_refusal s ≡ None → (answer.0 ≡ told codes.Done 0 (length t.pending)) × (answer.1 ≡ text) × (t ≡ closed_of s)
   pub reads : close_refusal s ≡ None → super_at (super_bytes (closed_root s)) ≡ Ok (closed_root s)
   pub stands : (log : Log) → Stands s log → Stands t log
 

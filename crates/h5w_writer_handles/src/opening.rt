@@ -6,11 +6,12 @@ ghost use Rattle.h5w_writer_handles.specs.Handles.{AreBounds, CreatesWriter, Hol
 
 use crate::given::Given;
 use crate::options::{H5wOptions, is_budget, is_limit};
-use crate::telling::{open_line, open_told};
+use crate::telling::open_told;
 use h5w_handles::{H5wCode, H5wTold, Handle, Held, put_line};
 use h5w_model::OutOfMemory;
 use h5w_session::WriterCore;
 use h5w_session_open::OpenError;
+use h5w_writer_lines::open_line;
 use std::alloc::Global;
 
 /// The most bytes of the name of a dataset that is opened.
@@ -75,7 +76,7 @@ fn opened(
 fn refuse(alloc: Global, error: &OpenError, text: &mut [u8]) -> H5wTold
     ensures { Refuses error.now text.old result text.new }
 {
-    put_line(alloc, &open_line(error), text);
+    put_line(alloc, &open_line(*error), text);
     open_told(error)
 }
 

@@ -1,12 +1,13 @@
 //! What a session's answers are told as.
 ghost use Rattle.std.specs.Prelude.{◌≡◌};
-ghost use Rattle.h5w_writer_handles.specs.Tellings.{append_told, close_told, flush_told, open_line, open_told};
+ghost use Rattle.h5w_writer_lines.specs.Lines.{line_text};
+ghost use Rattle.h5w_writer_handles.specs.Tellings.{PutsLine, append_told, close_told, flush_told, open_told};
 
-use h5w_handles::{H5wCode, H5wTold, refusal_told};
-use h5w_model::ReadError;
+use h5w_handles::{H5wCode, H5wTold, put_text, refusal_told};
 use h5w_session::{AppendError, CloseError, FlushError};
 use h5w_session_open::OpenError;
-use h5w_text::ErrorLine;
+use h5w_writer_lines::{WriterLine, write_line};
+use std::alloc::Global;
 
 /// Why a file is not opened.
 pub fn open_told(error: &OpenError) -> H5wTold
@@ -20,32 +21,9 @@ pub fn open_told(error: &OpenError) -> H5wTold
         OpenError::Layout => H5wCode::Opened.with(4, 0),
         OpenError::ChunkBytes { bytes, .. } => H5wCode::Opened.with(5, *bytes),
         OpenError::NoColumns => H5wCode::Opened.with(6, 0),
+        OpenError::Same { second, .. } => H5wCode::Opened.with(7, *second),
         OpenError::Finding { kind, at } => H5wCode::Opened.with(u32::from(*kind), *at),
         OpenError::Failed | OpenError::OutOfMemory => H5wCode::Memory.alone(),
-    }
-}
-
-/// The line that the program prints of it.
-pub fn open_line(error: &OpenError) -> ErrorLine
-    ensures { result ≡ open_line error.now }
-{
-    match error {
-        OpenError::Read(refusal) => ErrorLine::Read(*refusal),
-        OpenError::Version { version } => ErrorLine::WriterVersion(*version),
-        OpenError::Flags { flags } => ErrorLine::Read(ReadError::NotSwmr { flags: *flags }),
-        OpenError::Cut { end, size } => ErrorLine::Cut {
-            end: *end,
-            size: *size,
-        },
-        OpenError::Layout => ErrorLine::Layout,
-        OpenError::ChunkBytes { bytes, .. } => ErrorLine::ChunkBytes(*bytes),
-        OpenError::NoColumns => ErrorLine::NoColumns,
-        OpenError::Finding { kind, at } => ErrorLine::Finding {
-            kind: *kind,
-            at: *at,
-        },
-        OpenError::Failed => ErrorLine::Disk,
-        OpenError::OutOfMemory => ErrorLine::Memory,
     }
 }
 
@@ -83,4 +61,24 @@ pub fn close_told(error: &CloseError) -> H5wTold
         CloseError::Stopped => H5wCode::Stopped.alone(),
         CloseError::Busy { pending } => H5wCode::Busy.with(0, *pending),
     }
+}
+
+/// Puts a line at the front of `text`, as much of it as there is room for, unless memory is wanting for it.
+fn put(alloc: Global, line: &WriterLine, text: &mut [u8])
+    ensures { PutsLine (line_text line.now) text.old text.new }
+{
+    let mut bytes = Vec::new(alloc);
+    if write_line(&mut bytes, line).is_err() {
+        return;
+    }
+    put_text(&bytes, text);
+}
+
+/// Tells why a call is refused, and puts its line.
+pub fn refuse(alloc: Global, told: H5wTold, line: &WriterLine, text: &mut [u8]) -> H5wTold
+    ensures told { result ≡ told }
+    ensures line { PutsLine (line_text line.now) text.old text.new }
+{
+    put(alloc, line, text);
+    told
 }

@@ -1,14 +1,24 @@
 //! The calls of a session, with codes in place of its answers.
 ghost use Rattle.std.specs.Prelude.{◌≡◌, ◌<◌, ◌%◌, IfOk, IsFalse, IsTrue, length, map, pos};
 ghost use Rattle.h5w_session.specs.Sessions.{AreRows};
+ghost use Rattle.h5w_text.specs.Errors.{error_text};
+ghost use Rattle.h5w_text.specs.declared.error.ErrorLine.TheVariants as lines;
+ghost use Rattle.h5w_handles.specs.Codes.{no_memory, told};
+ghost use Rattle.h5w_handles.specs.declared.code.H5wCode.TheVariants as codes;
+ghost use Rattle.h5w_writer_handles.specs.Tellings.{PutsLine};
 ghost use Rattle.h5w_writer_handles.specs.WriterCalls.{Appended, AppendedRows, Closed, Failed, Flushed, KeepsRetired, Written, next_out, next_place};
 
 use crate::room::Room;
-use crate::telling::{append_told, close_told, flush_told};
+use crate::telling::{append_told, close_told, flush_told, refuse};
 use h5w_handles::{H5wCode, H5wPlace, H5wTold};
 use h5w_model::OutOfMemory;
 use h5w_session::WriterCore;
+use h5w_text::ErrorLine;
+use h5w_writer_lines::{WriterLine, append_line, close_line, flush_line};
 use std::alloc::Global;
+
+/// The line of an input that the values of a call are told as.
+const LINE: u64 = 1;
 
 /// These numbers as values.
 fn signed_values(alloc: Global, numbers: &[i64]) -> Result<Vec<i128>, OutOfMemory>
@@ -35,50 +45,73 @@ fn are_whole(core: &WriterCore, count: usize) -> bool
 }
 
 /// Appends values, whole rows.
-fn append_rows(core: &mut WriterCore, values: &[i128]) -> H5wTold
+fn append_rows(core: &mut WriterCore, alloc: Global, values: &[i128], text: &mut [u8]) -> H5wTold
     requires { AreRows core.old values.now }
-    ensures { AppendedRows values.now core.old result core.new }
+    ensures { AppendedRows values.now text.old core.old (result, text.new) core.new }
 {
     match core.append(values, &mut Room::new()) {
         Ok(rows) => H5wCode::Done.with(0, rows),
-        Err(error) => append_told(&error),
+        Err(error) => refuse(alloc, append_told(&error), &append_line(LINE, error), text),
     }
+}
+
+/// Refuses values that are no whole rows.
+fn refuse_rows(core: &WriterCore, alloc: Global, text: &mut [u8]) -> H5wTold
+    ensures told { result ≡ told codes.Rows 0 core.now.dataset.shape.cols }
+    ensures line { PutsLine (error_text (lines.Line 1)) text.old text.new }
+{
+    let line = WriterLine::Error(ErrorLine::Line(LINE));
+    refuse(alloc, H5wCode::Rows.with(0, core.columns()), &line, text)
+}
+
+/// Refuses values for want of memory.
+fn refuse_memory(alloc: Global, text: &mut [u8]) -> H5wTold
+    ensures told { result ≡ no_memory }
+    ensures line { PutsLine (error_text lines.Memory) text.old text.new }
+{
+    let line = WriterLine::Error(ErrorLine::Memory);
+    refuse(alloc, H5wCode::Memory.alone(), &line, text)
 }
 
 /// Appends values, rows one after another.
 #[tactic(auto, using(crate::proofs::RowsLemmas::rows_of_whole))]
-pub fn append(core: &mut WriterCore, alloc: Global, numbers: &[i64]) -> H5wTold
-    ensures { Appended numbers.now core.old result core.new }
+pub fn append(core: &mut WriterCore, alloc: Global, numbers: &[i64], text: &mut [u8]) -> H5wTold
+    ensures { Appended numbers.now text.old core.old (result, text.new) core.new }
 {
     if !are_whole(core, numbers.len()) {
-        return H5wCode::Rows.with(0, core.columns());
+        return refuse_rows(core, alloc, text);
     }
     match signed_values(alloc, numbers) {
-        Ok(values) => append_rows(core, &values),
-        Err(OutOfMemory) => H5wCode::Memory.alone(),
+        Ok(values) => append_rows(core, alloc, &values, text),
+        Err(OutOfMemory) => refuse_memory(alloc, text),
     }
 }
 
 /// Appends values that are not negative, rows one after another.
-pub fn append_unsigned(core: &mut WriterCore, alloc: Global, numbers: &[u64]) -> H5wTold
-    ensures { Appended (map pos numbers.now) core.old result core.new }
+pub fn append_unsigned(
+    core: &mut WriterCore,
+    alloc: Global,
+    numbers: &[u64],
+    text: &mut [u8],
+) -> H5wTold
+    ensures { Appended (map pos numbers.now) text.old core.old (result, text.new) core.new }
 {
     if !are_whole(core, numbers.len()) {
-        return H5wCode::Rows.with(0, core.columns());
+        return refuse_rows(core, alloc, text);
     }
     match unsigned_values(alloc, numbers) {
-        Ok(values) => append_rows(core, &values),
-        Err(OutOfMemory) => H5wCode::Memory.alone(),
+        Ok(values) => append_rows(core, alloc, &values, text),
+        Err(OutOfMemory) => refuse_memory(alloc, text),
     }
 }
 
 /// Plans the pieces that make the rows that wait visible.
-pub fn flush(core: &mut WriterCore) -> H5wTold
-    ensures { Flushed core.old result core.new }
+pub fn flush(core: &mut WriterCore, alloc: Global, text: &mut [u8]) -> H5wTold
+    ensures { Flushed text.old core.old (result, text.new) core.new }
 {
     match core.flush(&mut Room::new()) {
         Ok(pieces) => H5wCode::Done.with(0, pieces),
-        Err(error) => flush_told(&error),
+        Err(error) => refuse(alloc, flush_told(&error), &flush_line(error), text),
     }
 }
 
@@ -120,12 +153,12 @@ pub fn failed(core: &mut WriterCore) -> H5wTold
 }
 
 /// Plans the superblock with the flags of a file that nobody writes.
-pub fn close(core: &mut WriterCore) -> H5wTold
-    ensures { Closed core.old result core.new }
+pub fn close(core: &mut WriterCore, alloc: Global, text: &mut [u8]) -> H5wTold
+    ensures { Closed text.old core.old (result, text.new) core.new }
 {
     match core.close() {
         Ok(()) => H5wCode::Done.with(0, core.pending()),
-        Err(error) => close_told(&error),
+        Err(error) => refuse(alloc, close_told(&error), &close_line(error), text),
     }
 }
 

@@ -9,15 +9,16 @@ use crate::writer;
 use h5w_handles::{H5wCode, H5wPlace, H5wTold, Handle, Held};
 use std::alloc::Global;
 
-/// Appends values, rows one after another. Pieces may be pending then.
-pub fn append(handle: &mut Handle, alloc: Global, values: &[i64]) -> H5wTold
-    ensures { OnWriter misuse (Appended values.now) handle.old.at.held result handle.new.at.held }
+/// Appends values, rows one after another. Pieces may be pending then. The line of a refusal goes to the front of `text`, as much of it as
+/// there is room for, unless memory is wanting for it; so of a flush and of a close.
+pub fn append(handle: &mut Handle, alloc: Global, values: &[i64], text: &mut [u8]) -> H5wTold
+    ensures { OnWriter (misuse, text.old) (Appended values.now text.old) handle.old.at.held (result, text.new) handle.new.at.held }
 {
     let Some(mut held) = handle.take(alloc) else {
         return H5wCode::Misuse.alone();
     };
     let told = match &mut *held {
-        Held::Writer(core) => writer::append(core, alloc, values),
+        Held::Writer(core) => writer::append(core, alloc, values, text),
         Held::Reader(_) => H5wCode::Misuse.alone(),
     };
     handle.put(held);
@@ -25,14 +26,19 @@ pub fn append(handle: &mut Handle, alloc: Global, values: &[i64]) -> H5wTold
 }
 
 /// Appends values that are not negative, rows one after another. Pieces may be pending then.
-pub fn append_unsigned(handle: &mut Handle, alloc: Global, values: &[u64]) -> H5wTold
-    ensures { OnWriter misuse (Appended (map pos values.now)) handle.old.at.held result handle.new.at.held }
+pub fn append_unsigned(
+    handle: &mut Handle,
+    alloc: Global,
+    values: &[u64],
+    text: &mut [u8],
+) -> H5wTold
+    ensures { OnWriter (misuse, text.old) (Appended (map pos values.now) text.old) handle.old.at.held (result, text.new) handle.new.at.held }
 {
     let Some(mut held) = handle.take(alloc) else {
         return H5wCode::Misuse.alone();
     };
     let told = match &mut *held {
-        Held::Writer(core) => writer::append_unsigned(core, alloc, values),
+        Held::Writer(core) => writer::append_unsigned(core, alloc, values, text),
         Held::Reader(_) => H5wCode::Misuse.alone(),
     };
     handle.put(held);
@@ -40,14 +46,14 @@ pub fn append_unsigned(handle: &mut Handle, alloc: Global, values: &[u64]) -> H5
 }
 
 /// Plans the pieces that make the rows that wait visible.
-pub fn flush(handle: &mut Handle, alloc: Global) -> H5wTold
-    ensures { OnWriter misuse Flushed handle.old.at.held result handle.new.at.held }
+pub fn flush(handle: &mut Handle, alloc: Global, text: &mut [u8]) -> H5wTold
+    ensures { OnWriter (misuse, text.old) (Flushed text.old) handle.old.at.held (result, text.new) handle.new.at.held }
 {
     let Some(mut held) = handle.take(alloc) else {
         return H5wCode::Misuse.alone();
     };
     let told = match &mut *held {
-        Held::Writer(core) => writer::flush(core),
+        Held::Writer(core) => writer::flush(core, alloc, text),
         Held::Reader(_) => H5wCode::Misuse.alone(),
     };
     handle.put(held);
@@ -99,14 +105,14 @@ pub fn failed(handle: &mut Handle, alloc: Global) -> H5wTold
 }
 
 /// Plans the superblock with the flags of a file that nobody writes, as one pending piece. Rows that wait stay unwritten.
-pub fn close(handle: &mut Handle, alloc: Global) -> H5wTold
-    ensures { OnWriter misuse Closed handle.old.at.held result handle.new.at.held }
+pub fn close(handle: &mut Handle, alloc: Global, text: &mut [u8]) -> H5wTold
+    ensures { OnWriter (misuse, text.old) (Closed text.old) handle.old.at.held (result, text.new) handle.new.at.held }
 {
     let Some(mut held) = handle.take(alloc) else {
         return H5wCode::Misuse.alone();
     };
     let told = match &mut *held {
-        Held::Writer(core) => writer::close(core),
+        Held::Writer(core) => writer::close(core, alloc, text),
         Held::Reader(_) => H5wCode::Misuse.alone(),
     };
     handle.put(held);

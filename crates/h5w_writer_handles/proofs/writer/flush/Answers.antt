@@ -1,6 +1,8 @@
-use Rattle.std.proofs.Common.{ap, Result, Err, arith, ℕ}
+use Rattle.std.proofs.Common.{◌∙◌, ap, subst, Result, Err, arith, ℕ}
 use Rattle.h5w_model.specs.Causes.{Rose}
 use Rattle.h5w_session.specs.declared.refusal.FlushError.{FlushError}
+use Rattle.h5w_writer_lines.specs.Lines.{line_text}
+use Rattle.h5w_writer_handles.specs.Tellings.{PutsLine}
 use Rattle.h5w_writer_handles.proofs.FlushLemmas.{causes_here}
 use Rattle.h5w_writer_handles.proofs.writer.flush.Goals as goal
 
@@ -14,7 +16,8 @@ returns-in-Err c =
     let so = c.in-Err.ensures in
     record {
       given = given;
-      told = c.flush_told.ensures;
+      told = c.refuse.ensures.told ∙ c.flush_told.ensures;
+      line = subst (λ l. PutsLine (line_text l) c.args.text.now c.refuse.new.text) c.flush_line.ensures c.refuse.ensures.line;
       flushed = so.flushed;
       planned = so.planned;
       pieces = so.pieces;
