@@ -5,10 +5,9 @@ use Rattle.h5w_model.specs.Numbers.{range}
 use Rattle.h5w_model.specs.Programs.{Prog, ret, whole, counted, stored, eval, next_look, fed}
 use Rattle.h5w_model.specs.Unfinished.{Unfinished, Reader, rows_left, values_left, fed_left, next_look_of, wanted, with_left}
 use Rattle.h5w_image.specs.View.{GivesRange, ImageView, Looked}
-use Rattle.h5w_image.proofs.ViewLemmas.{looked_itself, looked_twice}
+use Rattle.h5w_image.proofs.ViewLemmas.{looked_twice}
 use Rattle.h5w_looks.specs.Still.{IsStill}
 use Rattle.h5w_looks.proofs.ReadLemmas.{still_on}
-use Rattle.h5w_lookup.specs.Looks.{IsWithinLook}
 use Rattle.h5w_reader.specs.Readers.{StepTells}
 use Rattle.h5w_reader.specs.declared.step.Step.{Step}
 use Rattle.h5w_reader.specs.declared.step.Step.TheVariants as steps
@@ -77,16 +76,6 @@ pub record Asking (v w : ImageView) (first now : Reader) : Type 0 where
   pub values : IsForValues first.left → IsForValues now.left
   pub exact : (img : List ℕ) → IsStill v img → option_map (evaluated img) now.left ≡ option_map (evaluated img) first.left
 
-pub asking_first : (v : ImageView) (first : Reader) → IsSome (wanted first.left) → Asking v v first first
-asking_first v first begun = record {
-  looked = looked_itself v;
-  wanting = begun;
-  same = refl;
-  rows = λ h. h;
-  values = λ h. h;
-  exact = λ img still. refl;
-}
-
 -- the bytes that a look at a still image gave
 given_there : (x : ImageView) (img : List ℕ) (at len : ℕ) (bytes : List ℕ) → IsStill x img → GivesRange x at len bytes → bytes ≡ range img at len
 given_there x img at len bytes still gives = subst (λ (o : Option (List ℕ)). IfSome o (λ b. bytes ≡ range b at len)) still.told gives
@@ -123,7 +112,3 @@ asking_exact {v} {w} {x} {first} {now} new at len bytes step a looked want gives
     told_since (option_map (evaluated img) (option_map (fed_left bytes) now.left)) (option_map (evaluated img) first.left) first now new step more
     (same_answer img now.left at len bytes want (given_there x img at len bytes (still_on img looked (still_on img a.looked still)) gives) ∙ a.exact img still)
     a.same (told_whole img (option_map (fed_left bytes) now.left) now new step more tells)
-
--- the bytes of a look are within it
-pub within_look : (l : Option (ℕ × ℕ)) (at len n : ℕ) → l ≡ Some (at, len) → n ≤ len → IsWithinLook l n
-within_look l at len n e h = subst (λ x. IsWithinLook x n) (sym e) h

@@ -72,7 +72,7 @@ open_super img name size o is = super_cases img name size (super_at (range img 0
 no_flags : (flags : ℕ) → is_open flags ≡ false → (flags % 2 ≡ 0) × (flags / 4 % 2 ≡ 0)
 no_flags flags e = (grind (arith, tests), grind (arith, tests))
 
-gives_back : (flags : ℕ) → flags % 2 ≡ 0 → flags / 4 % 2 ≡ 0 → cleared (writing_flags flags) ≡ flags
+pub gives_back : (flags : ℕ) → flags % 2 ≡ 0 → flags / 4 % 2 ≡ 0 → cleared (writing_flags flags) ≡ flags
 gives_back flags first third = omega (arith, first, third)
 
 ok_is : {E : Type 0} (a b : Super) → ◌≡◌ {A = Result Super E} (Ok a) (Ok b) → a ≡ b
@@ -80,7 +80,7 @@ ok_is {E} a b e = ap (λ (r : Result Super E). elim r [ Ok x ↦ x | Err x ↦ a
 
 -- ---- The file that was closed
 
-front_of : (r : Super) (front : List Write) (img : List ℕ) → range (image img (front ++ record { at = 0; piece = super_bytes r } ∷ [])) 0 48 ≡ super_bytes r
+pub front_of : (r : Super) (front : List Write) (img : List ℕ) → range (image img (front ++ record { at = 0; piece = super_bytes r } ∷ [])) 0 48 ≡ super_bytes r
 front_of r front img =
     let w : Write = record { at = 0; piece = super_bytes r } in
     ap (λ (x : List ℕ). range x 0 48) (image-push img front w) ∙ ap (λ n. range (apply w (image img front)) 0 n) (sym (length-super_bytes r)) ∙ At-apply w (image img front)

@@ -6,13 +6,13 @@ use Rattle.h5w_model.specs.Datasets.{Described}
 use Rattle.h5w_model.specs.Lawful.{first_outside}
 use Rattle.h5w_image.specs.View.{DiskView}
 use Rattle.h5w_session.specs.Sessions.{Session}
-use Rattle.h5w_text.specs.LinesAhead.{AreSingles, Cut, Given, GivenUp, IntakeView, IsOver, IsWhole, LinesAhead, Stays, TakesNumbers, lines_ahead}
-use Rattle.h5w_text.specs.Scripts.{number_line_of}
+use Rattle.h5w_input.specs.LinesAhead.{AreSingles, Cut, Given, GivenUp, IntakeView, IsOver, IsWhole, LinesAhead, Stays, TakesNumbers, lines_ahead}
+use Rattle.h5w_input.specs.Scripts.{number_line_of}
 use Rattle.h5w_text.specs.Streams.{SourceView, SinkView}
 use Rattle.h5w_text.specs.declared.error.ErrorLine.{ErrorLine}
 use Rattle.h5w_text.specs.declared.error.ErrorLine.TheVariants as errors
-use Rattle.h5w_text.specs.declared.line.LineError.{LineError}
-use Rattle.h5w_text.specs.declared.line.LineError.TheVariants as line_errors
+use Rattle.h5w_input.specs.declared.line.LineError.{LineError}
+use Rattle.h5w_input.specs.declared.line.LineError.TheVariants as line_errors
 use Rattle.h5w_batches.specs.Batches.{Batches, after_line, after_lines, close_batch, no_batches}
 use Rattle.h5w_batches.specs.Inputs.{AreFirst, ReadsAll, ReadsTooMuch, ReadsWhole, SameSource, Spell, input_limit, outside}
 use Rattle.h5w_batches.specs.Reads.{error_of}
@@ -22,7 +22,7 @@ use Rattle.h5w_appending.specs.Appends.{HasTaken, InputRefuses, Stored, columns_
 use Rattle.h5w_appending.specs.Appending.{BrokeTold, Closes, FlushRefused, HalfTold, IsBegun, IsReady, PutsAll, PutsBy, ReadyUnlessDisk, RunsOn, LineRefused, Steps, StepsOn, TakesInput, TakesAhead, TakesInputFrom, TakesInputOn, TakesLine, TakesSingles, Told, each_alone, ending_of}
 use Rattle.h5w_appending.specs.declared.batching.Ending.{Ending}
 use Rattle.h5w_appending.specs.declared.batching.Ending.TheVariants as endings
-use Rattle.h5w_text.proofs.LineLemmas.{takes_numbers}
+use Rattle.h5w_input.proofs.LineLemmas.{takes_numbers}
 use Rattle.h5w_batches.proofs.RowLemmas.{lines-append}
 use Rattle.h5w_batches.proofs.LineLemmas.{GoingWhole, first_all, first_none, first_read, reads_too_much, reads_whole, spell_count, spell_more, starts, whole_first, whole_more}
 use Rattle.h5w_batches.proofs.InputLemmas.{rose_before}
@@ -123,6 +123,7 @@ close_cause name first t numbers u (errors.WriterVersion version) all stored c =
 close_cause name first t numbers u errors.Layout all stored c = absurd c
 close_cause name first t numbers u (errors.ChunkBytes bytes) all stored c = absurd c
 close_cause name first t numbers u errors.NoColumns all stored c = absurd c
+close_cause name first t numbers u (errors.Same one other) all stored c = absurd c
 close_cause name first t numbers u (errors.FullChunks chunks limit) all stored c = absurd c
 close_cause name first t numbers u (errors.FullSpace at size limit) all stored c = record { numbers = numbers; batches = refl; read = inr all; session = t; before = _; stored = stored; full_for = c.0; bounds = c.1 }
 close_cause name first t numbers u errors.Deep all stored c = record { numbers = numbers; batches = refl; read = inr all; session = t; before = _; stored = stored; deep_for = c }
@@ -166,6 +167,7 @@ line_cause y name first t numbers u line number (errors.WriterVersion version) r
 line_cause y name first t numbers u line number errors.Layout reads count stored c = absurd c
 line_cause y name first t numbers u line number (errors.ChunkBytes bytes) reads count stored c = absurd c
 line_cause y name first t numbers u line number errors.NoColumns reads count stored c = absurd c
+line_cause y name first t numbers u line number (errors.Same one other) reads count stored c = absurd c
 line_cause y name first t numbers u line number (errors.FullChunks chunks limit) reads count stored c = record { number = number; values = c.0; at = record { line = line; at = record { numbers = numbers; reads = reads; number = count; batches = refl }; spelled = subst (λ k. number_line_of k line ≡ Some c.0) (same_columns first t (after_lines no_batches numbers) stored.taken) c.1 }; session = t; taken = stored.taken; refused = c.2 }
 line_cause y name first t numbers u line number (errors.FullSpace at size limit) reads count stored c = record { numbers = numbers; batches = refl; read = inl (line, reads, subst (λ k. number_line_of k line ≡ Some []) (same_columns first t (after_lines no_batches numbers) stored.taken) c.0); session = t; before = _; stored = stored; full_for = c.1.0; bounds = c.1.1 }
 line_cause y name first t numbers u line number errors.Deep reads count stored c = record { numbers = numbers; batches = refl; read = inl (line, reads, subst (λ k. number_line_of k line ≡ Some []) (same_columns first t (after_lines no_batches numbers) stored.taken) c.0); session = t; before = _; stored = stored; deep_for = c.1 }

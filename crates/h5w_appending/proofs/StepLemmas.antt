@@ -12,7 +12,7 @@ use Rattle.h5w_session.specs.declared.refusal.AppendError.{AppendError}
 use Rattle.h5w_session.specs.declared.refusal.AppendError.TheVariants as append_errors
 use Rattle.h5w_session.specs.declared.refusal.FlushError.{FlushError}
 use Rattle.h5w_session.specs.declared.refusal.FlushError.TheVariants as flush_errors
-use Rattle.h5w_text.specs.Scripts.{number_line_of}
+use Rattle.h5w_input.specs.Scripts.{number_line_of}
 use Rattle.h5w_text.specs.Streams.{SinkView, Gave, GaveSome}
 use Rattle.h5w_text.specs.declared.error.ErrorLine.{ErrorLine}
 use Rattle.h5w_text.specs.declared.error.ErrorLine.TheVariants as errors
@@ -223,6 +223,7 @@ line_closes {v} {k} w l n name s t line number r spelled steps = λ first b u m 
     refused errors.Layout c = absurd c
     refused (errors.ChunkBytes bytes) c = absurd c
     refused errors.NoColumns c = absurd c
+    refused (errors.Same one other) c = absurd c
     refused (errors.FullChunks chunks limit) c = absurd c
     refused (errors.FullSpace at size limit) c = (spelled, c)
     refused errors.Deep c = (spelled, c)
@@ -298,6 +299,7 @@ line_refused {v} {w} k faults name s t line number values (endings.Refused e) p 
     refused errors.Layout c = absurd c
     refused (errors.ChunkBytes bytes) c = absurd c
     refused errors.NoColumns c = absurd c
+    refused (errors.Same one other) c = absurd c
     refused (errors.FullChunks chunks limit) c = (values, spelled, c)
     refused (errors.FullSpace at size limit) c = absurd c
     refused errors.Deep c = absurd c

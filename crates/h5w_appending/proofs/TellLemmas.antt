@@ -251,6 +251,7 @@ is_why name at limit budget keeps first s t b (errors.WriterVersion version) ope
 is_why name at limit budget keeps first s t b errors.Layout opened h = absurd h
 is_why name at limit budget keeps first s t b (errors.ChunkBytes bytes) opened h = absurd h
 is_why name at limit budget keeps first s t b errors.NoColumns opened h = absurd h
+is_why name at limit budget keeps first s t b (errors.Same one other) opened h = absurd h
 is_why name at limit budget keeps first s t b errors.Disk opened h = absurd h
 
 -- ---- The whole append

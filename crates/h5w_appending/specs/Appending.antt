@@ -10,8 +10,8 @@ use Rattle.h5w_session.specs.Refusals.{IsDeepFor, IsFullFor, append_refusal}
 use Rattle.h5w_session.specs.Sessions.{AddsValues, Session, TakesRows, rows_of, stopped_of}
 use Rattle.h5w_session.specs.Stands.{Stands}
 use Rattle.h5w_session.specs.declared.refusal.AppendError.TheVariants as append_errors
-use Rattle.h5w_text.specs.LinesAhead.{LinesAhead, TakesNumbers}
-use Rattle.h5w_text.specs.Scripts.{number_line_of}
+use Rattle.h5w_input.specs.LinesAhead.{LinesAhead, TakesNumbers}
+use Rattle.h5w_input.specs.Scripts.{number_line_of}
 use Rattle.h5w_text.specs.Streams.{SourceView, SinkView, Gave}
 use Rattle.h5w_text.specs.declared.error.ErrorLine.{ErrorLine}
 use Rattle.h5w_text.specs.declared.error.ErrorLine.TheVariants as errors

@@ -24,7 +24,7 @@ use Rattle.h5w_session.specs.Sessions.{IsNamed, Session, cleared}
 use Rattle.h5w_session.specs.Stands.{Stands}
 use Rattle.h5w_session.specs.declared.refusal.AppendError.TheVariants as appends
 use Rattle.h5w_text.specs.Errors.{error_text}
-use Rattle.h5w_text.specs.Scripts.{number_line_of}
+use Rattle.h5w_input.specs.Scripts.{number_line_of}
 use Rattle.h5w_text.specs.Streams.{SourceView, SinkView, Gave, GaveSome}
 use Rattle.h5w_text.specs.declared.error.ErrorLine.{ErrorLine}
 use Rattle.h5w_text.specs.declared.error.ErrorLine.TheVariants as errors
@@ -203,6 +203,7 @@ open_line (opens.Cut end size) = errors.Cut end size
 open_line opens.Layout = errors.Layout
 open_line (opens.ChunkBytes bytes limit) = errors.ChunkBytes bytes
 open_line opens.NoColumns = errors.NoColumns
+open_line (opens.Same one other) = errors.Same one other
 open_line (opens.Finding kind at) = errors.Finding kind at
 open_line opens.Failed = errors.Disk
 open_line opens.OutOfMemory = errors.Memory

@@ -4,7 +4,7 @@ ghost use Rattle.h5w_model.specs.Logs.{Log};
 ghost use Rattle.h5w_image.specs.View.{IsThere};
 ghost use Rattle.h5w_session.specs.Sessions.{rows_of};
 ghost use Rattle.h5w_session.specs.Stands.{Stands};
-ghost use Rattle.h5w_text.specs.LinesAhead.{lines_ahead};
+ghost use Rattle.h5w_input.specs.LinesAhead.{lines_ahead};
 ghost use Rattle.h5w_files.specs.Images.{LeavesFiles};
 ghost use Rattle.h5w_batches.specs.Inputs.{SameSource, input_limit, outside};
 ghost use Rattle.h5w_appending.specs.Taken.{closed_text};
@@ -17,10 +17,11 @@ use crate::putting::close;
 use h5w_batches::INPUT_LIMIT;
 use h5w_files::DiskImage;
 use h5w_image::Disk;
+use h5w_input::{Intake, Lines, Next};
 use h5w_model::ReadError;
 use h5w_session::WriterCore;
 use h5w_session_open::OpenError;
-use h5w_text::{ErrorLine, Intake, Lines, Next, Sink, Source, Status, say, tell, write_numbers};
+use h5w_text::{ErrorLine, Sink, Source, Status, say, tell, write_numbers};
 use std::alloc::Global;
 
 /// How many values of lines that stand next are appended at once, at most.
@@ -223,6 +224,7 @@ fn open_line(error: OpenError) -> ErrorLine
         OpenError::Layout => ErrorLine::Layout,
         OpenError::ChunkBytes { bytes, limit: _ } => ErrorLine::ChunkBytes(bytes),
         OpenError::NoColumns => ErrorLine::NoColumns,
+        OpenError::Same { first, second } => ErrorLine::Same { first, second },
         OpenError::Finding { kind, at } => ErrorLine::Finding { kind, at },
         OpenError::Failed => ErrorLine::Disk,
         OpenError::OutOfMemory => ErrorLine::Memory,

@@ -3,8 +3,8 @@ ghost use Rattle.std.specs.Prelude.{◌≡◌, ◌≤◌, ℕ, List, length, Som
 ghost use Rattle.h5w_image.specs.View.{IsThere};
 ghost use Rattle.h5w_batches.specs.Batches.{AreWholeRows};
 ghost use Rattle.h5w_session.specs.Sessions.{AreRows};
-ghost use Rattle.h5w_text.specs.LinesAhead.{IsLine};
-ghost use Rattle.h5w_text.specs.Scripts.{number_line_of};
+ghost use Rattle.h5w_input.specs.LinesAhead.{IsLine};
+ghost use Rattle.h5w_input.specs.Scripts.{number_line_of};
 ghost use Rattle.h5w_appending.specs.Appends.{columns_of};
 ghost use Rattle.h5w_appending.specs.Appending.{AppendsBy, Closes, FlushRefused, FlushesBy, HasSome, IsReady, LineRefused, PutsBy, ReadyUnlessDisk, RunsOn, StepsOn, TakesLine, Unput};
 
@@ -12,8 +12,9 @@ use crate::putting::put_pending;
 use h5w_batches::{BatchError, line_values};
 use h5w_files::DiskImage;
 use h5w_image::Disk;
+use h5w_input::{LineError, TextLine};
 use h5w_session::{AppendError, FlushError, WriterCore};
-use h5w_text::{ErrorLine, LineError, Sink, TextLine, write_numbers};
+use h5w_text::{ErrorLine, Sink, write_numbers};
 use std::alloc::Global;
 
 /// Why an append ends before its input does.

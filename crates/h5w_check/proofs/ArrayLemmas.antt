@@ -1,19 +1,18 @@
 -- Visits of the blocks of an array, behind other ranges.
 use Rattle.std.proofs.Common.{◌≡◌, ℕ, ◌+◌, ◌<◌, true, false, cond, List, [], ◌∷◌, ◌++◌, length, get_or, drop, Result, Ok, Err, refl, sym, ◌∙◌, ap, append_assoc, arith}
 use Rattle.std.specs.Prelude.{◌==◌, nat_lt}
-use Rattle.std.proofs.lemmas.List.{drop_all}
 use Rattle.std.proofs.lemmas.Bool.{lt-ltb, le-ltb, ne_eqb, eq-eqb}
 use Rattle.h5w_model.specs.Numbers.{range, undefined}
 use Rattle.h5w_model.specs.Programs.{ret, whole, eval, and_then}
-use Rattle.h5w_model.specs.Arrays.{EahdFields, EaibFields, SlotsFields, eahd_at, eaib_at, easb_at, eadb_at, eahd_len, eaib_len, slots_len, super_block_of}
+use Rattle.h5w_model.specs.Arrays.{EahdFields, EaibFields, SlotsFields, eahd_at, eaib_at, easb_at, eahd_len, eaib_len, slots_len, super_block_of}
 use Rattle.h5w_model.specs.Tables.{super_block_of_first}
 use Rattle.h5w_model.specs.Datasets.{then_also}
 use Rattle.h5w_model.specs.Findings.{Used, Finding, Visited, found, chunk_ranges, block_in, both, visit_each, data_block_visit, secondary_block_visit, first_visits, second_visits, index_block_visit, array_visit, block_past_end, bad_index_header, bad_index_block, bad_secondary_block, bad_data_block}
 use Rattle.h5w_model.specs.declared.refusal.BlockFault.{BlockFault}
 use Rattle.h5w_laws.proofs.ProgramLemmas.{eval_and_then}
 use Rattle.h5w_check.specs.Ranges.{after}
-use Rattle.h5w_check.specs.Blocks.{block_found, decoded, header_found, index_found, secondary_found, data_found}
-use Rattle.h5w_check.proofs.RangeLemmas.{after_nil, next_from}
+use Rattle.h5w_check.specs.Blocks.{block_found, decoded, header_found, index_found, secondary_found}
+use Rattle.h5w_check.proofs.RangeLemmas.{after_nil, behind_one, next_from}
 
 -- what a visit gives behind other ranges
 abbrev pub run : List ℕ → List Used → Visited → Result (List Used) Finding
@@ -37,10 +36,6 @@ run_both img old p q =
 
 -- ---- A block
 
-one_more : (old : List Used) (u : Used) (r : Result (List Used) Finding) → after old (then_also r (λ us. Ok (u ∷ us))) ≡ after (old ++ u ∷ []) r
-one_more old u (Ok us) = ap (λ vs. Ok vs) (sym (append_assoc old (u ∷ []) us))
-one_more old u (Err f) = refl
-
 pub run_block : (img : List ℕ) (old : List Used) (end at n : ℕ) (visit : List ℕ → Visited)
     → run img old (block_in end at n visit) ≡ then_also (block_found end at n n old img) (λ x. run img x.1 (visit x.0))
 run_block img old end p n visit =
@@ -51,7 +46,7 @@ run_block img old end p n visit =
     let go : Visited = whole p n (λ c. and_then (visit c) (λ us. ret (Ok (u ∷ us)))) in
     elim (nat_lt end (p + n)) as (λ c. run img old (cond c past go) ≡ then_also (cond c (Err (found block_past_end p)) (Ok there)) (λ x. run img x.1 (visit x.0))) [
       | true ↦ refl
-      | false ↦ ap (after old) (eval_and_then img (visit b) (λ us. ret (Ok (u ∷ us)))) ∙ one_more old u (eval img (visit b))
+      | false ↦ ap (after old) (eval_and_then img (visit b) (λ us. ret (Ok (u ∷ us)))) ∙ behind_one old u (eval img (visit b))
     ]
 
 -- what goes on with what was decoded
@@ -75,25 +70,11 @@ run_slots : (img : List ℕ) (old : List Used) (end bytes at n : ℕ) (r : Resul
 run_slots img old end bytes p n (Ok d) = refl
 run_slots img old end bytes p n (Err f) = refl
 
-pub data_absent : (img : List ℕ) (old : List Used) (end bytes n at : ℕ) → at ≡ undefined → run img old (data_block_visit end bytes n at) ≡ Ok old
-data_absent img old end bytes n p e = run_absent img old p (block_in end p (slots_len n) (λ b. elim (eadb_at b p n) as (λ _. Visited) [ Ok d ↦ ret (chunk_ranges end bytes d.slots) | Err f ↦ ret (Err (found bad_data_block p)) ])) e
-
-pub data_there : (img : List ℕ) (old : List Used) (end bytes n at : ℕ) → (at ≡ undefined → ⊥)
-    → run img old (data_block_visit end bytes n at) ≡ then_also (block_found end at (slots_len n) (slots_len n) old img) (λ x. data_found end bytes at n x.0 x.1)
-data_there img old end bytes n p other =
-    let visit : List ℕ → Visited = λ b. elim (eadb_at b p n) as (λ _. Visited) [ Ok d ↦ ret (chunk_ranges end bytes d.slots) | Err f ↦ ret (Err (found bad_data_block p)) ] in
-    run_there img old p (block_in end p (slots_len n) visit) other
-    ∙ run_block img old end p (slots_len n) visit
-    ∙ ap (then_also (block_found end p (slots_len n) (slots_len n) old img)) (λ i x. run_slots img x.1 end bytes p n (eadb_at x.0 p n) i)
-
 -- ---- In a loop
 
 pub each_next : (img : List ℕ) (old : List Used) (visit : ℕ → Visited) (xs : List ℕ) (i : ℕ) → i < length xs
     → run img old (visit_each visit (drop i xs)) ≡ then_also (run img old (visit (get_or xs i 0))) (λ mid. run img mid (visit_each visit (drop (i + 1) xs)))
 each_next img old visit xs i h = ap (λ ys. run img old (visit_each visit ys)) (next_from xs i 0 h) ∙ run_both img old (visit (get_or xs i 0)) (visit_each visit (drop (i + 1) xs))
-
-pub each_end : (img : List ℕ) (old : List Used) (visit : ℕ → Visited) (xs : List ℕ) (i : ℕ) → length xs ≡ i → run img old (visit_each visit (drop i xs)) ≡ Ok old
-each_end img old visit xs i h = ap (λ ys. run img old (visit_each visit ys)) (drop_all i xs (omega arith)) ∙ after_nil old
 
 pub first_next : (img : List ℕ) (old : List Used) (end bytes : ℕ) (xs : List ℕ) (i : ℕ) → i < length xs
     → run img old (first_visits end bytes i (drop i xs)) ≡ then_also (run img old (data_block_visit end bytes (super_block_of (super_block_of_first i)).slots (get_or xs i 0))) (λ mid. run img mid (first_visits end bytes (i + 1) (drop (i + 1) xs)))
@@ -116,9 +97,6 @@ second_past img old end bytes sblock xs i h past =
     ap (λ ys. run img old (second_visits end bytes sblock ys)) (next_from xs i 0 h)
     ∙ ap (λ c. run img old (cond c (ret (Ok [])) rest)) (lt-ltb 12 sblock past)
     ∙ after_nil old
-
-pub second_end : (img : List ℕ) (old : List Used) (end bytes sblock : ℕ) (xs : List ℕ) (i : ℕ) → length xs ≡ i → run img old (second_visits end bytes sblock (drop i xs)) ≡ Ok old
-second_end img old end bytes sblock xs i h = ap (λ ys. run img old (second_visits end bytes sblock ys)) (drop_all i xs (omega arith)) ∙ after_nil old
 
 -- ---- Secondary blocks
 

@@ -1,24 +1,22 @@
 -- Visits of nodes where keys may have fallen, so that ranges no longer count.
-use Rattle.std.proofs.Common.{◌≡◌, ℕ, ◌+◌, ◌^◌, ◌<◌, Bool, true, false, cond, not, ◌&&◌, ◌||◌, List, [], ◌∷◌, ◌++◌, length, drop, Some, None, Result, Ok, Err, refl, sym, ◌∙◌, ap, subst}
-use Rattle.std.specs.Prelude.{◌==◌, nat_lt, IfSome}
+use Rattle.std.proofs.Common.{◌≡◌, ℕ, ◌+◌, ◌^◌, ◌<◌, Bool, true, false, cond, not, ◌&&◌, ◌||◌, List, [], ◌∷◌, ◌++◌, length, drop, None, Result, Ok, Err, refl, sym, ◌∙◌, ap, subst}
+use Rattle.std.specs.Prelude.{◌==◌, nat_lt}
 use Rattle.h5w_model.specs.Numbers.{undefined}
 use Rattle.h5w_model.specs.Programs.{Prog, eval}
 use Rattle.h5w_model.specs.Trees.{RecordFields, ChildFields}
 use Rattle.h5w_model.specs.Datasets.{then_also}
 use Rattle.h5w_model.specs.Findings.{Used, Finding, Under, found, children_under, node_visit, wrong_total, keys_not_rising}
 use Rattle.h5w_image.specs.View.{ImageView}
-use Rattle.h5w_image.proofs.ViewLemmas.{looked_itself}
-use Rattle.std.specs.BTreeMap.{Updates, IsUnchanged}
 use Rattle.h5w_check.specs.Ran.{Ran}
 use Rattle.h5w_check.specs.Spans.{span_of, joined_spans}
-use Rattle.h5w_check.specs.Known.{known, name_cmp, span_under, Visits}
+use Rattle.h5w_check.specs.Known.{known, Visits}
 use Rattle.h5w_check.specs.Nodes.{Spanned, under_after, children_after, ended, add_found, counting, faded, all_faded}
 use Rattle.h5w_check.specs.declared.span.Span.{Span}
 use Rattle.h5w_check.specs.declared.known.KnownNodes.{KnownNodes}
 use Rattle.h5w_check.specs.declared.error.CheckError.{CheckError}
 use Rattle.h5w_check.specs.declared.error.CheckError.TheVariants as errors
 use Rattle.h5w_found.proofs.RanLemmas.{ran_begin, same_value}
-use Rattle.h5w_check.proofs.KnownLemmas.{known_more, known_same, ran_visits}
+use Rattle.h5w_check.proofs.KnownLemmas.{ran_visits}
 use Rattle.h5w_check.proofs.TreeLemmas.{child_next, child_rest}
 
 -- ---- Ranges that do not count
@@ -147,12 +145,6 @@ all_faded_err b (Err g) f h = cc
 
 abbrev node_gives : ℕ → ℕ → Bool → ℕ → ℕ → ℕ → List Used → List ℕ → Result Spanned Finding
 node_gives end bytes down depth at n old img = faded down (under_after old (eval img (node_visit end bytes depth at n)))
-
-abbrev spanned_answer : List Used → Span → Result Spanned CheckError
-spanned_answer us s = Ok (us, s)
-
-abbrev out_of_memory : Result Spanned CheckError
-out_of_memory = Err errors.OutOfMemory
 
 -- the root, above which no keys have fallen
 counts : (r : Result Spanned Finding) → r ≡ faded false r

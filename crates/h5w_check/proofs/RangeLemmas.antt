@@ -1,17 +1,17 @@
 -- Ranges behind others.
-use Rattle.std.proofs.Common.{◌≡◌, ℕ, ◌+◌, ◌<◌, true, false, cond, List, [], ◌∷◌, ◌++◌, length, get_or, drop, Result, Ok, Err, refl, sym, ◌∙◌, ap, append_assoc, add-one, drop-cons, arith}
+use Rattle.std.proofs.Common.{◌≡◌, ℕ, ◌+◌, ◌<◌, true, false, cond, List, [], ◌∷◌, ◌++◌, length, get_or, drop, Result, Ok, Err, refl, sym, ◌∙◌, ap, append_assoc, add-one, drop-cons}
 use Rattle.std.specs.Prelude.{◌==◌, nat_lt}
-use Rattle.std.proofs.lemmas.List.{append-nil, drop_all}
+use Rattle.std.proofs.lemmas.List.{append-nil}
 use Rattle.h5w_model.specs.Numbers.{undefined}
-use Rattle.h5w_model.specs.Datasets.{Range, then_also}
-use Rattle.h5w_model.specs.Findings.{Used, Finding, found, chunk_ranges, header_ranges}
+use Rattle.h5w_model.specs.Datasets.{then_also}
+use Rattle.h5w_model.specs.Findings.{Used, Finding, found, chunk_ranges}
 use Rattle.h5w_check.specs.Ranges.{after, put_after}
 
 pub after_nil : (old : List Used) → after old (Ok []) ≡ Ok old
 after_nil old = ap (λ us. Ok us) (append-nil old)
 
 -- one more range, and then the rest
-behind_one : (old : List Used) (u : Used) (r : Result (List Used) Finding)
+pub behind_one : (old : List Used) (u : Used) (r : Result (List Used) Finding)
     → after old (then_also r (λ us. Ok (u ∷ us))) ≡ after (old ++ u ∷ []) r
 behind_one old u (Ok us) = ap (λ vs. Ok vs) (sym (append_assoc old (u ∷ []) us))
 behind_one old u (Err f) = refl
@@ -33,12 +33,5 @@ chunks_step end bytes place rest old =
       ]
     ]
 
--- the ranges of a header, one after another
-abbrev pub block_after : ℕ → Range → List Used → Result (List Used) Finding
-block_after end r old = cond (nat_lt end (r.place + r.len)) (Err (found 18 r.place)) (Ok (old ++ record { place = r.place; len = r.len; chunk = false } ∷ []))
-
 pub next_from : {A : Type 0} (xs : List A) (i : ℕ) (d : A) → i < length xs → drop i xs ≡ get_or xs i d ∷ drop (i + 1) xs
 next_from xs i d h = rw (add-one, drop-cons xs i d) refl
-
-pub chunks_end : (end bytes i : ℕ) (xs : List ℕ) (old : List Used) → length xs ≡ i → after old (chunk_ranges end bytes (drop i xs)) ≡ Ok old
-chunks_end end bytes i xs old h = ap (λ ys. after old (chunk_ranges end bytes ys)) (drop_all i xs (omega arith)) ∙ after_nil old

@@ -7,7 +7,7 @@ use Rattle.h5w_model.specs.declared.cell.Key.{Key}
 use Rattle.h5w_check.specs.Spans.{capped, last_of, ends_of, span_of, in_order, ends_joined, joined_spans}
 use Rattle.h5w_check.specs.declared.span.Span.{Span}
 
-and_assoc : (a b c : Bool) → (a && (b && c)) ≡ (a && b && c)
+pub and_assoc : (a b c : Bool) → (a && (b && c)) ≡ (a && b && c)
 and_assoc true b c = refl
 and_assoc false b c = refl
 

@@ -23,8 +23,8 @@ use Rattle.h5w_check.specs.declared.span.Span.{Span}
 use Rattle.h5w_bt.specs.declared.records.Record.{Record}
 use Rattle.h5w_bt.specs.declared.children.Child.{Child}
 use Rattle.h5w_bt.specs.Parts.{record_of, child_of}
-use Rattle.h5w_check.proofs.RangeLemmas.{after_nil, chunks_step, next_from}
-use Rattle.h5w_check.proofs.SpanLemmas.{span_more, span_assoc}
+use Rattle.h5w_check.proofs.RangeLemmas.{chunks_step, next_from}
+use Rattle.h5w_check.proofs.SpanLemmas.{and_assoc, span_assoc, span_more}
 use Rattle.h5w_check.proofs.ArrayLemmas.{run, run_block, run_decoded}
 
 -- ---- Records
@@ -87,10 +87,6 @@ pub child_last : (img : List ℕ) (end bytes : ℕ) (go : ChildFields → Prog (
     → children_after totals old s (eval img (children_under end bytes go [] (c ∷ cs))) ≡ then_also (under_after old (eval img (go c))) (λ x. Ok (totals && (c.total == x.1.count), (x.0, joined_spans s x.1)))
 child_last img end bytes go c cs totals old s low =
     ap (children_after totals old s) (eval_and_then img (go c) (λ u. ret (Ok ((c.total == length u.keys), u)))) ∙ last_given totals old s c.total (eval img (go c)) low
-
-and_assoc : (a b c : Bool) → (a && (b && c)) ≡ (a && b && c)
-and_assoc true b c = refl
-and_assoc false b c = refl
 
 -- what stands behind a child and a record
 rest_given : (totals : Bool) (old : List Used) (s : Span) (total : ℕ) (u : Under) (vs : List Used) (key : Key) (r : Result (Bool × Under) Finding) → total < 2 ^ 64

@@ -1,16 +1,15 @@
 -- The ranges by place, and what they come to.
-use Rattle.std.proofs.Common.{◌++◌, take, ◌≡◌, ℕ, suc, ◌+◌, ◌<◌, ◌≤◌, ◌⊎◌, Bool, true, false, cond, not, List, [], ◌∷◌, length, map, get_or, drop, Some, None, refl, sym, ◌∙◌, ap, subst, arith, inl, inr}
+use Rattle.std.proofs.Common.{◌++◌, take, ◌≡◌, ℕ, suc, ◌+◌, ◌<◌, ◌≤◌, ◌⊎◌, Bool, true, false, cond, not, List, [], ◌∷◌, length, map, get_or, refl, sym, ◌∙◌, ap, subst, arith, inl, inr}
 use Rattle.std.specs.Prelude.{◌==◌, nat_le, count_by, sum_by, filter}
 use Rattle.std.specs.Ordering.{is_lt, nat_cmp}
 use Rattle.std.specs.List.Sorted.{IsNonDecreasingBy, ties}
-use Rattle.std.proofs.lemmas.List.{drop_all, append-nil, append_assoc, take_all, take_more}
+use Rattle.std.proofs.lemmas.List.{append-nil, append_assoc, take_all, take_more}
 use Rattle.std.proofs.lemmas.List.Sums.{sum_by-cons}
 use Rattle.std.proofs.lemmas.Bool.{cases_Bool, eqb-true, eqb-false, cases_lt, lt-ltb, le-ltb, le-leb, lt-leb, eq-eqb, ne_eqb}
-use Rattle.h5w_model.specs.Findings.{Used, put_by_place, by_place, first_overlap, overlap}
+use Rattle.h5w_model.specs.Findings.{Used, put_by_place, by_place}
 use Rattle.h5w_check.specs.Ranges.{used_of}
 use Rattle.h5w_check.specs.Verdicts.{AllBelow, AreRuns, HaveSameOrder}
 use Rattle.h5w_check.specs.declared.ranges.Range.{Range}
-use Rattle.h5w_check.proofs.RangeLemmas.{next_from}
 
 -- ---- Counts and sums
 
@@ -23,11 +22,6 @@ chunks_held rs = sum_held (λ (u : Used). cond u.chunk 1 0) rs
 
 pub blocks_held : (rs : List Range) → count_by (λ (u : Used). not u.chunk) (map used_of rs) ≡ count_by (λ (r : Range). not r.chunk) rs
 blocks_held rs = sum_held (λ (u : Used). cond (not u.chunk) 1 0) rs
-
--- ---- Overlaps
-
-pub overlap_none : (u : Used) (i : ℕ) (rs : List Range) → length rs ≡ i → first_overlap u (map used_of (drop i rs)) ≡ None
-overlap_none u i rs h = ap (λ xs. first_overlap u (map used_of xs)) (drop_all i rs (omega arith))
 
 -- ---- By place
 

@@ -10,7 +10,7 @@ use Rattle.h5w_opening.specs.Openings.{Opened}
 use Rattle.h5w_opening.specs.declared.error.OpenError.TheVariants as opens
 use Rattle.h5w_session.specs.Sessions.{Session}
 use Rattle.h5w_text.specs.Errors.{error_text}
-use Rattle.h5w_text.specs.Lines.{lines_of}
+use Rattle.h5w_input.specs.Lines.{lines_of}
 use Rattle.h5w_text.specs.Says.{Said, whole, failed}
 use Rattle.h5w_text.specs.Statuses.{status_of}
 use Rattle.h5w_text.specs.Streams.{SourceView, SinkView}
@@ -89,6 +89,7 @@ input_ends t first b h same source (errors.WriterVersion version) r = absurd r
 input_ends t first b h same source errors.Layout r = absurd r
 input_ends t first b h same source (errors.ChunkBytes bytes) r = absurd r
 input_ends t first b h same source errors.NoColumns r = absurd r
+input_ends t first b h same source (errors.Same one other) r = absurd r
 input_ends t first b h same source (errors.FullChunks chunks limit) r = inl refl
 input_ends t first b h same source (errors.FullSpace at size limit) r = inl refl
 input_ends t first b h same source errors.Deep r = inl refl

@@ -2,7 +2,7 @@
 use Rattle.std.proofs.Common.{ℕ, ◌≡◌, ◌⊎◌, List, [], ◌∷◌, ◌++◌, length, map, take, Option, Some, None, sym, refl, ap, ◌∙◌, subst, inl, inr, arith, append_assoc}
 use Rattle.std.specs.Prelude.{◌<◌, IfSome}
 use Rattle.h5w_model.specs.Lawful.{Line, Rules}
-use Rattle.h5w_text.specs.Lines.{lines_of, whole_lines_of}
+use Rattle.h5w_input.specs.Lines.{lines_of, whole_lines_of}
 use Rattle.h5w_text.specs.Streams.{SourceView, SinkView}
 use Rattle.h5w_words.specs.declared.job.Job.{Job}
 use Rattle.h5w_words.specs.declared.job.Job.TheVariants.{Play, New, Check, Poll, Clear, Make, Append, Live, Stop, Repack}

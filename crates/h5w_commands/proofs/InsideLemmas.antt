@@ -42,6 +42,7 @@ line_told o lines number line (errors.WriterVersion version) h = absurd h
 line_told o lines number line errors.Layout h = absurd h
 line_told o lines number line (errors.ChunkBytes bytes) h = absurd h
 line_told o lines number line errors.NoColumns h = absurd h
+line_told o lines number line (errors.Same one other) h = absurd h
 line_told o lines number line errors.Deep h = absurd h
 line_told o lines number line errors.Disk h = absurd h
 line_told o lines number line (errors.Input limit) h = absurd h
@@ -69,6 +70,7 @@ stop_refused o s t (errors.WriterVersion version) h = absurd h
 stop_refused o s t errors.Layout h = absurd h
 stop_refused o s t (errors.ChunkBytes bytes) h = absurd h
 stop_refused o s t errors.NoColumns h = absurd h
+stop_refused o s t (errors.Same one other) h = absurd h
 stop_refused o s t errors.Deep h = absurd h
 stop_refused o s t errors.Disk h = absurd h
 

@@ -1,10 +1,10 @@
 -- Lines of an input that spell no line of a script.
 use Rattle.std.proofs.Common.{ℕ, ◌<◌, ◌≡◌, List, length, None, subst, arith, tests}
 use Rattle.h5w_model.specs.Lawful.{Rules}
-use Rattle.h5w_text.specs.LinesAhead.{IsLine}
-use Rattle.h5w_text.specs.Scripts.{script_line_of}
-use Rattle.h5w_text.specs.declared.line.TextLine.{TextLine}
-use Rattle.h5w_text.specs.declared.line.TextLine.TheVariants.{Long}
+use Rattle.h5w_input.specs.LinesAhead.{IsLine}
+use Rattle.h5w_input.specs.Scripts.{script_line_of}
+use Rattle.h5w_input.specs.declared.line.TextLine.{TextLine}
+use Rattle.h5w_input.specs.declared.line.TextLine.TheVariants.{Long}
 use Rattle.h5w_commands.specs.Answers.{play_line_of}
 
 too_long : (columns : ℕ) (bytes : List ℕ) → 65536 < length bytes → script_line_of columns bytes ≡ None

@@ -7,16 +7,16 @@ use Rattle.h5w_model.specs.Causes.{Rose}
 use Rattle.h5w_model.specs.Lawful.{Line, Rules, ScriptState, Allowed, Lawful, at_first, next_state}
 use Rattle.h5w_model.specs.declared.reply.Reply.{Reply}
 use Rattle.h5w_text.specs.Streams.{SourceView, SinkView, Gave, GaveSome, Grows}
-use Rattle.h5w_text.specs.Bytes.{Lacks}
-use Rattle.h5w_text.specs.Lines.{lines_of, whole_lines_of}
-use Rattle.h5w_text.specs.LinesAhead.{Ended, Given, GivenUp, IntakeView, IsLine, IsOver, IsWhole, Passed, LinesAhead, lines_left, lines_ahead}
+use Rattle.h5w_input.specs.Bytes.{Lacks}
+use Rattle.h5w_input.specs.Lines.{lines_of, whole_lines_of}
+use Rattle.h5w_input.specs.LinesAhead.{Ended, Given, GivenUp, IntakeView, IsLine, IsOver, IsWhole, Passed, LinesAhead, lines_left, lines_ahead}
 use Rattle.h5w_text.specs.Replies.{reply_text}
 use Rattle.h5w_text.specs.Errors.{error_text}
 use Rattle.h5w_text.specs.declared.error.ErrorLine.TheVariants as errors
-use Rattle.h5w_text.specs.declared.line.TextLine as text_lines
-use Rattle.h5w_text.specs.declared.line.LineError.{LineError}
-use Rattle.h5w_text.specs.declared.line.LineError.TheVariants.{Failed, Input, OutOfMemory}
-use Rattle.h5w_text.proofs.LineLemmas.{lines_more, lines_done, passed_nothing, passed_twice, whole_cut, whole_lacks}
+use Rattle.h5w_input.specs.declared.line.TextLine as text_lines
+use Rattle.h5w_input.specs.declared.line.LineError.{LineError}
+use Rattle.h5w_input.specs.declared.line.LineError.TheVariants.{Failed, Input, OutOfMemory}
+use Rattle.h5w_input.proofs.LineLemmas.{lines_more, lines_done, passed_nothing, passed_twice, whole_cut, whole_lacks}
 use Rattle.h5w_core.specs.Worlds.{WorldView, HaveOneLog, rules_of}
 use Rattle.h5w_commands.specs.Answers.{Answers, play_line_of}
 use Rattle.h5w_commands.specs.Endings.{Answered, EndsAt, Runs, ending_of}

@@ -2,8 +2,8 @@
 use Rattle.std.proofs.Common.{ℕ, ◌*◌, ℤ, ◌≤◌, ◌≡◌, Bool, true, false, ◌&&◌, if◌then◌else◌, nat_le, List, [], ◌∷◌, length, Option, Some, None, refl, subst, arith, tests}
 use Rattle.std.specs.Prelude.{codes, option_and_then, option_map}
 use Rattle.h5w_model.specs.Lawful.{Line, adds, flushes, shows_up_to, ends, opens, refreshes, reads, looks}
-use Rattle.h5w_text.specs.Lines.{count_of, line_limit, words_of}
-use Rattle.h5w_text.specs.Scripts.{alone, append_of, by_word, is_word, look_of, of_words, on_reader_of, positive_of, read_of, rows_of, script_line_of, write_of}
+use Rattle.h5w_input.specs.Lines.{count_of, line_limit, words_of}
+use Rattle.h5w_input.specs.Scripts.{alone, append_of, by_word, is_word, look_of, of_words, on_reader_of, positive_of, read_of, rows_of, script_line_of, write_of}
 use Rattle.h5w_batches.proofs.RowLemmas.{words_rows}
 use Rattle.h5w_commands.specs.Answers.{InRange}
 

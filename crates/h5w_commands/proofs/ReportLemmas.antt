@@ -17,10 +17,10 @@ use Rattle.h5w_model.specs.declared.refusal.ReadError.TheVariants.{NotHdf5}
 use Rattle.h5w_laws.proofs.LogLemmas.{length_hist}
 use Rattle.h5w_creation_laws.specs.CreatedFiles.{CreatedFile, block_write, created_blocks, created_writes, header_block, index_blocks, root_block, super_block}
 use Rattle.h5w_creation_laws.proofs.BornLemmas.{created_born}
-use Rattle.h5w_session.specs.Creations.{new_file}
+use Rattle.h5w_form.specs.NewFiles.{new_file}
 use Rattle.h5w_session.proofs.LawLemmas.{standing_laws}
 use Rattle.h5w_options.specs.declared.options.Options.{Options}
-use Rattle.h5w_text.specs.Lines.{lines_of, whole_lines_of}
+use Rattle.h5w_input.specs.Lines.{lines_of, whole_lines_of}
 use Rattle.h5w_text.specs.Errors.{error_text}
 use Rattle.h5w_text.specs.Says.{Said, SaidUnlessMemory, whole, failed}
 use Rattle.h5w_text.specs.Statuses.{status_of}
@@ -228,6 +228,7 @@ known_end o s t (Err (errors.WriterVersion v)) text c h source = absurd c.0
 known_end o s t (Err errors.Layout) text c h source = absurd c.0
 known_end o s t (Err (errors.ChunkBytes n)) text c h source = absurd c.0
 known_end o s t (Err errors.NoColumns) text c h source = absurd c.0
+known_end o s t (Err (errors.Same one other)) text c h source = absurd c.0
 known_end o s t (Err errors.Deep) text c h source = absurd c.0
 known_end o s t (Err errors.Disk) text c h source = absurd c.0
 

@@ -6,18 +6,18 @@ use Rattle.std.proofs.lemmas.List.{map-append}
 use Rattle.h5w_model.specs.Causes.{Rose}
 use Rattle.h5w_model.specs.Lawful.{Line, Rules, adds, flushes, shows_up_to, ends, opens, refreshes, reads, looks}
 use Rattle.h5w_text.specs.Streams.{SourceView}
-use Rattle.h5w_text.specs.Lines.{lines_of, whole_lines_of}
-use Rattle.h5w_text.specs.LinesAhead.{Ended, Given, GivenUp, IntakeView, IsLine, IsOver, IsWhole, Passed, LinesAhead, Stays, lines_left, lines_ahead}
-use Rattle.h5w_text.specs.Scripts.{script_line_of}
-use Rattle.h5w_text.specs.Words.{line_of_script}
+use Rattle.h5w_input.specs.Lines.{lines_of, whole_lines_of}
+use Rattle.h5w_input.specs.LinesAhead.{Ended, Given, GivenUp, IntakeView, IsLine, IsOver, IsWhole, Passed, LinesAhead, Stays, lines_left, lines_ahead}
+use Rattle.h5w_input.specs.Scripts.{script_line_of}
+use Rattle.h5w_input.specs.Words.{line_of_script}
 use Rattle.h5w_text.specs.declared.error.ErrorLine.{ErrorLine}
 use Rattle.h5w_text.specs.declared.error.ErrorLine.TheVariants as errors
-use Rattle.h5w_text.specs.declared.line.TextLine as text_lines
-use Rattle.h5w_text.specs.declared.line.TextLine.TheVariants.{Long, Whole}
-use Rattle.h5w_text.specs.declared.line.LineError.{LineError}
-use Rattle.h5w_text.specs.declared.line.LineError.TheVariants.{Failed, Input, OutOfMemory}
-use Rattle.h5w_text.specs.declared.script.ScriptLine.{ScriptLine}
-use Rattle.h5w_text.proofs.LineLemmas.{lines_more, lines_done, passed_nothing, passed_twice}
+use Rattle.h5w_input.specs.declared.line.TextLine as text_lines
+use Rattle.h5w_input.specs.declared.line.TextLine.TheVariants.{Long, Whole}
+use Rattle.h5w_input.specs.declared.line.LineError.{LineError}
+use Rattle.h5w_input.specs.declared.line.LineError.TheVariants.{Failed, Input, OutOfMemory}
+use Rattle.h5w_input.specs.declared.script.ScriptLine.{ScriptLine}
+use Rattle.h5w_input.proofs.LineLemmas.{lines_more, lines_done, passed_nothing, passed_twice}
 use Rattle.h5w_options.specs.declared.options.Options.{Options}
 use Rattle.h5w_core.specs.Worlds.{WorldView, rules_of}
 use Rattle.h5w_stop.specs.Sweeps.{no_rows, rest_of}
@@ -81,6 +81,7 @@ refused_by o lines number line bytes (errors.WriterVersion v) spelled h = absurd
 refused_by o lines number line bytes errors.Layout spelled h = absurd h
 refused_by o lines number line bytes (errors.ChunkBytes n) spelled h = absurd h
 refused_by o lines number line bytes errors.NoColumns spelled h = absurd h
+refused_by o lines number line bytes (errors.Same one other) spelled h = absurd h
 refused_by o lines number line bytes errors.Deep spelled h = absurd h
 refused_by o lines number line bytes (errors.Input limit) spelled h = absurd h
 refused_by o lines number line bytes errors.Disk spelled h = absurd h
@@ -219,6 +220,7 @@ ended_at_line {v} {u} {w} {world} {number} o t line e x room given h = go e h
     go errors.Layout h = absurd h.2
     go (errors.ChunkBytes n) h = absurd h.2
     go errors.NoColumns h = absurd h.2
+    go (errors.Same one other) h = absurd h.2
     go errors.Deep h = absurd h.2
     go (errors.Input limit) h = absurd h.2
     go errors.Disk h = absurd h.2

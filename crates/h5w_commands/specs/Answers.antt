@@ -2,7 +2,7 @@
 use Rattle.std.specs.Prelude.{◌≡◌, ℕ, ◌*◌, ◌≤◌, List, length, Option}
 use Rattle.h5w_model.specs.Lawful.{Line, Rules, adds, opens, refreshes, reads, looks, ScriptState, Allowed, next_state}
 use Rattle.h5w_model.specs.declared.reply.Reply.{Reply}
-use Rattle.h5w_text.specs.Scripts.{script_line_of}
+use Rattle.h5w_input.specs.Scripts.{script_line_of}
 use Rattle.h5w_core.specs.Worlds.{WorldView, HaveOneLog, rules_of}
 
 -- its values are rows of so many columns, its reader is one of 16, and it asks for a look at least

@@ -9,8 +9,8 @@ use Rattle.h5w_image.specs.View.{DiskView}
 use Rattle.h5w_opening.specs.Openings.{Opened, looked_for}
 use Rattle.h5w_opening.specs.declared.error.OpenError.{OpenError}
 use Rattle.h5w_session_open.specs.OpenAnswers.{IsNotOpened}
-use Rattle.h5w_text.specs.Lines.{lines_of}
-use Rattle.h5w_text.specs.Scripts.{number_line_of}
+use Rattle.h5w_input.specs.Lines.{lines_of}
+use Rattle.h5w_input.specs.Scripts.{number_line_of}
 use Rattle.h5w_text.specs.Streams.{SourceView, SinkView}
 use Rattle.h5w_text.specs.declared.status.Status.{Status}
 use Rattle.h5w_text.specs.declared.status.Status.TheVariants as statuses

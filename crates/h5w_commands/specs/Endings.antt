@@ -7,8 +7,8 @@ use Rattle.h5w_text.specs.Streams.{SourceView, SinkView, Gave, GaveSome}
 use Rattle.h5w_text.specs.Replies.{reply_text}
 use Rattle.h5w_text.specs.Errors.{error_text}
 use Rattle.h5w_text.specs.declared.error.ErrorLine.TheVariants as errors
-use Rattle.h5w_text.specs.declared.line.LineError.{LineError}
-use Rattle.h5w_text.specs.declared.line.LineError.TheVariants as line_errors
+use Rattle.h5w_input.specs.declared.line.LineError.{LineError}
+use Rattle.h5w_input.specs.declared.line.LineError.TheVariants as line_errors
 use Rattle.h5w_core.specs.Worlds.{WorldView, rules_of}
 use Rattle.h5w_batches.specs.Inputs.{input_limit}
 use Rattle.h5w_commands.specs.Answers.{Answers, play_line_of}

@@ -1,8 +1,8 @@
 pub use Rattle.h5w_model.specs.Causes
 pub use Rattle.h5w_model.specs.Lawful
 pub use Rattle.h5w_text.specs.Streams
-pub use Rattle.h5w_text.specs.Lines
-pub use Rattle.h5w_text.specs.Scripts
+pub use Rattle.h5w_input.specs.Lines
+pub use Rattle.h5w_input.specs.Scripts
 pub use Rattle.h5w_text.specs.Replies
 pub use Rattle.h5w_text.specs.Errors
 pub use Rattle.h5w_files.specs.Ends

@@ -4,21 +4,22 @@ use Rattle.h5w_model.specs.Causes.{Rose}
 use Rattle.h5w_model.specs.Lawful.{Line}
 use Rattle.h5w_model.specs.Logs.{Log, hist}
 use Rattle.h5w_model.specs.Prefixed.{Held, Prefixed}
-use Rattle.h5w_session.specs.Creations.{log_of, new_file}
+use Rattle.h5w_session.specs.Creations.{log_of}
+use Rattle.h5w_form.specs.NewFiles.{new_file}
 use Rattle.h5w_options.specs.declared.options.Options.{Options}
 use Rattle.h5w_stop.specs.Outcomes.{AreRuns}
 use Rattle.h5w_stop.specs.Sweeps.{flush_counts, found_at, no_rows, outcome_of_run}
 use Rattle.h5w_stop.specs.declared.outcome.Outcome.{Outcome}
 use Rattle.h5w_stop.specs.declared.outcome.Outcome.TheVariants.{NoFile, Rows, Refused}
 use Rattle.h5w_stop.specs.declared.report.Run.{Run}
-use Rattle.h5w_text.specs.Lines.{lines_of, whole_lines_of}
+use Rattle.h5w_input.specs.Lines.{lines_of, whole_lines_of}
 use Rattle.h5w_text.specs.Errors.{error_text}
 use Rattle.h5w_text.specs.Streams.{SinkView, SourceView}
 use Rattle.h5w_text.specs.Table.{numbers_text}
 use Rattle.h5w_text.specs.declared.error.ErrorLine.{ErrorLine}
 use Rattle.h5w_text.specs.declared.error.ErrorLine.TheVariants as errors
-use Rattle.h5w_text.specs.declared.line.LineError.{LineError}
-use Rattle.h5w_text.specs.declared.line.LineError.TheVariants as line_errors
+use Rattle.h5w_input.specs.declared.line.LineError.{LineError}
+use Rattle.h5w_input.specs.declared.line.LineError.TheVariants as line_errors
 use Rattle.h5w_text.specs.declared.status.Status.{Status}
 use Rattle.h5w_text.specs.declared.status.Status.TheVariants as statuses
 use Rattle.h5w_files.specs.Ends.{EndsBy}

@@ -1,13 +1,13 @@
 //! The replies to the lines of a script.
 ghost use Rattle.std.specs.Prelude.{◌≡◌, ◌≤◌, ℕ, List, Some, None, Err, IfOk};
 ghost use Rattle.h5w_model.specs.Lawful.{Line as ScriptedLine, looks, shows_up_to};
-ghost use Rattle.h5w_text.specs.LinesAhead.{IsLine};
-ghost use Rattle.h5w_text.specs.Words.{line_of_script};
+ghost use Rattle.h5w_input.specs.LinesAhead.{IsLine};
+ghost use Rattle.h5w_input.specs.Words.{line_of_script};
 ghost use Rattle.h5w_core.specs.Worlds.{rules_of};
 ghost use Rattle.h5w_commands.specs.Answers.{Answers, InRange, play_line_of};
 
 use h5w_core::{Event, OutOfMemory, Reply, World};
-use h5w_text::{ScriptLine, TextError, TextLine, script_line};
+use h5w_input::{ScriptLine, TextError, TextLine, script_line};
 use std::alloc::Global;
 
 /// Why a line is given no reply.
@@ -32,7 +32,7 @@ impl From<OutOfMemory> for Refusal {
 
 impl From<TextError> for Refusal {
     ghost use Rattle.std.specs.Prelude.{◌≡◌};
-    ghost use Rattle.h5w_text.specs.declared.script.TextError.TheVariants.{Grammar};
+    ghost use Rattle.h5w_input.specs.declared.script.TextError.TheVariants.{Grammar};
     ghost use Rattle.h5w_commands.specs.declared.answer.Refusal.TheVariants.{Line as outside};
 
     ghost from_gives = { λ e r. (r ≡ outside → e ≡ Grammar) × (e ≡ Grammar → r ≡ outside) };

@@ -1,4 +1,5 @@
-use h5w_text::{Failed, LineError};
+use h5w_input::LineError;
+use h5w_text::Failed;
 
 /// Why a script ends before its input does.
 #[derive(Clone, Copy)]

@@ -2,7 +2,7 @@
 ghost use Rattle.std.specs.Prelude.{◌≡◌, ◌+◌, ℕ, List, length, OnOk, IfErr};
 ghost use Rattle.h5w_model.specs.Lawful.{at_first};
 ghost use Rattle.h5w_options.specs.Options.{AreAttempts, AreOptions};
-ghost use Rattle.h5w_text.specs.LinesAhead.{IsLine, lines_ahead};
+ghost use Rattle.h5w_input.specs.LinesAhead.{IsLine, lines_ahead};
 ghost use Rattle.h5w_core.specs.Worlds.{HaveOneLog, rules_for, rules_of};
 ghost use Rattle.h5w_batches.specs.Inputs.{SameSource, input_limit, outside};
 ghost use Rattle.h5w_commands.specs.Endings.{Answered, EndsAt, Runs};
@@ -13,7 +13,8 @@ use crate::ending::Ending;
 use crate::writing::release;
 use h5w_batches::INPUT_LIMIT;
 use h5w_core::{Options, World};
-use h5w_text::{ErrorLine, Intake, Lines, Next, Sink, Source, Status, TextLine, tell, write_reply};
+use h5w_input::{Intake, Lines, Next, TextLine};
+use h5w_text::{ErrorLine, Sink, Source, Status, tell, write_reply};
 use std::alloc::Global;
 
 /// Answers a line of the input, and writes the reply's text. What `text` had before is let go.

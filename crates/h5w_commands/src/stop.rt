@@ -6,7 +6,7 @@ ghost use Rattle.h5w_options.specs.Options.{AreOptions};
 ghost use Rattle.h5w_options.specs.declared.options.Options.{Options as Created};
 ghost use Rattle.h5w_stop.specs.declared.outcome.Outcome.TheVariants.{Refused};
 ghost use Rattle.h5w_stop.specs.declared.report.Run.{Run as OneRun};
-ghost use Rattle.h5w_text.specs.LinesAhead.{IsLine, lines_ahead};
+ghost use Rattle.h5w_input.specs.LinesAhead.{IsLine, lines_ahead};
 ghost use Rattle.h5w_batches.specs.Inputs.{SameSource, input_limit, outside};
 ghost use Rattle.h5w_commands.specs.Stops.{IsTold, ReadsAll, RefusesLine, StopEnds, StopEndsWell, StopRefuses, SweepsTo, TakesLine, error_line, run_text};
 ghost use Rattle.h5w_commands.specs.Writing.{Follows};
@@ -14,11 +14,9 @@ ghost use Rattle.h5w_commands.specs.Writing.{Follows};
 use crate::writing::{begin, release, take};
 use h5w_batches::INPUT_LIMIT;
 use h5w_core::{Options, World};
+use h5w_input::{Intake, LineError, Lines, Next, TextError, TextLine, script_line};
 use h5w_stop::{Outcome, Report, Run, sweep};
-use h5w_text::{
-    ErrorLine, Intake, LineError, Lines, Next, OutOfMemory, Sink, Source, Status, TextError,
-    TextLine, say, script_line, tell, write_numbers,
-};
+use h5w_text::{ErrorLine, OutOfMemory, Sink, Source, Status, say, tell, write_numbers};
 use std::alloc::Global;
 
 /// Adds the line of a run.

@@ -3,13 +3,14 @@ ghost use Rattle.std.specs.Prelude.{◌≡◌, ◌+◌, ◌∷◌, ◌++◌, ℕ
 ghost use Rattle.h5w_model.specs.Lawful.{Line as ScriptedLine, ScriptState, adds, flushes};
 ghost use Rattle.h5w_options.specs.Options.{AreOptions};
 ghost use Rattle.h5w_options.specs.declared.options.Options.{Options as Created};
-ghost use Rattle.h5w_text.specs.Words.{line_of_script};
+ghost use Rattle.h5w_input.specs.Words.{line_of_script};
 ghost use Rattle.h5w_core.specs.Worlds.{AreRowsBy, HaveOneLog, rules_of};
 ghost use Rattle.h5w_commands.specs.Answers.{InRange};
 ghost use Rattle.h5w_commands.specs.Writing.{Follows, IsAmid, Refuses, ShowsAll, writing};
 
 use h5w_core::{Event, Options, OutOfMemory, Reply, World};
-use h5w_text::{ErrorLine, ScriptLine, Values};
+use h5w_input::{ScriptLine, Values};
+use h5w_text::ErrorLine;
 use std::alloc::Global;
 
 /// How often a reader's call may look at a dataset header that changes; no reader is opened here.

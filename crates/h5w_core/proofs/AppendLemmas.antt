@@ -18,13 +18,14 @@ use Rattle.h5w_session.specs.declared.refusal.AppendError.{AppendError}
 use Rattle.h5w_session.specs.declared.refusal.AppendError.TheVariants as errors
 use Rattle.h5w_session.proofs.LawLemmas.{standing_laws}
 use Rattle.h5w_core.specs.Worlds.{AreRowsBy, WorldView, HaveOneLog, IsStateOf, Steps, polling_by, polling_of, rules_of}
-use Rattle.h5w_core.proofs.StateLemmas.{columns_of, in_rows, load_of-log, more_rows, new_now, rules_by, some_columns, spent_in-events}
+use Rattle.h5w_core.proofs.StateLemmas.{columns_of, in_rows, load_of-log, more_rows, new_now, rules_by, some_columns}
 use Rattle.h5w_core.proofs.WorldLemmas.{world_of, changed, replaced, with_session}
 use Rattle.h5w_image.specs.Memory.{MemView}
 use Rattle.h5w_image.specs.View.{Same}
 use Rattle.h5w_reader.specs.declared.reader.ReaderCore.{ReaderCore}
 use Rattle.h5w_core.specs.Readers.{reader_at}
 use Rattle.h5w_steady.specs.Steady.{steady}
+use Rattle.h5w_session.proofs.PastLemmas.{spent_in-events}
 
 -- what is answered to a refusal, and where nothing is refused
 abbrev pub append_answer : Option AppendError → ℕ → Reply

@@ -1,7 +1,6 @@
 -- The pieces of a new file become visible, one after another.
-use Rattle.std.proofs.Common.{◌≡◌, ℕ, zero, suc, ◌+◌, ◌<◌, ◌≤◌, List, [], ◌∷◌, ◌++◌, length, replicate, get_or, sym, refl, ap, ◌∙◌, subst, arith, append_assoc, length-append, Option, Some, None}
+use Rattle.std.proofs.Common.{◌≡◌, ℕ, zero, suc, ◌+◌, ◌<◌, ◌≤◌, List, [], ◌∷◌, ◌++◌, length, replicate, get_or, sym, refl, ap, ◌∙◌, subst, arith, append_assoc, length-append, Option, None}
 use Rattle.std.proofs.lemmas.List.{append-nil, length-map, nil_from_length}
-use Rattle.std.specs.Option.{unwrap_or}
 use Rattle.h5w_model.specs.Images.{image}
 use Rattle.h5w_model.specs.Logs.{Cutting, Log, and_now, hist, spent, shows}
 use Rattle.h5w_model.specs.Lawful.{at_first}
@@ -15,8 +14,9 @@ use Rattle.h5w_reader.specs.declared.reader.ReaderCore.{ReaderCore}
 use Rattle.h5w_options.specs.Options.{AreOptions}
 use Rattle.h5w_options.specs.declared.options.Options.{Options}
 use Rattle.h5w_creation_laws.specs.CreatedFiles.{block_write, created_blocks, created_log, created_writes}
-use Rattle.h5w_session.specs.Creations.{IsCreated, new_file}
-use Rattle.h5w_session.proofs.OptionLemmas.{creatable}
+use Rattle.h5w_session.specs.Creations.{IsCreated}
+use Rattle.h5w_form.specs.NewFiles.{new_file}
+use Rattle.h5w_form.proofs.OptionLemmas.{creatable}
 use Rattle.h5w_session.specs.Room.{HasRoomFor}
 use Rattle.h5w_session.specs.Sessions.{Session, AfterPiece, cutting_of}
 use Rattle.h5w_session.specs.Stands.{Stands}
@@ -24,13 +24,12 @@ use Rattle.h5w_session.proofs.LawLemmas.{standing_laws}
 use Rattle.h5w_core.specs.Creation.{Creates}
 use Rattle.h5w_core.specs.Readers.{placed, reader_at}
 use Rattle.h5w_steady.specs.Steady.{steady}
-use Rattle.h5w_core.specs.Worlds.{HaveOneLog, HoldsTogether, IsNewWorld, nobody, polling_of, rules_for, rules_of}
+use Rattle.h5w_core.specs.Worlds.{HaveOneLog, HoldsTogether, IsNewWorld, nobody, polling_of}
 use Rattle.h5w_core.proofs.ShowLemmas.{after_facts, same_cutting, still_piece}
-use Rattle.h5w_core.proofs.StateLemmas.{new_now, rules_by, spent_in-events}
+use Rattle.h5w_core.proofs.StateLemmas.{new_now}
 use Rattle.h5w_core.proofs.WorldLemmas.{world_of}
-
-some_is : {A : Type 0} (a b : A) → Some a ≡ Some b → a ≡ b
-some_is a b same = ap (λ o. unwrap_or o a) same
+use Rattle.h5w_session_laws.proofs.PieceLemmas.{some_is}
+use Rattle.h5w_session.proofs.PastLemmas.{spent_in-events}
 
 -- how many they are
 abbrev pub total : Options → ℕ

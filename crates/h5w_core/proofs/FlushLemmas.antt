@@ -19,7 +19,7 @@ use Rattle.h5w_image.specs.Memory.{MemView}
 use Rattle.h5w_image.specs.View.{Same}
 use Rattle.h5w_reader.specs.declared.reader.ReaderCore.{ReaderCore}
 use Rattle.h5w_session.specs.Flushes.{SameBut}
-use Rattle.h5w_session.specs.Sessions.{Session, TakesRows, cutting_of, with_rows}
+use Rattle.h5w_session.specs.Sessions.{Session, TakesRows, cutting_of}
 use Rattle.h5w_session.specs.Sessions as sessions
 use Rattle.h5w_session.specs.Refusals.{IsFullFor, IsSpace, flush_refusal}
 use Rattle.h5w_session.specs.Loads.{NoPlace}
@@ -28,11 +28,11 @@ use Rattle.h5w_session.specs.declared.refusal.FlushError.{FlushError}
 use Rattle.h5w_session.specs.declared.refusal.FlushError.TheVariants as errors
 use Rattle.h5w_session.specs.Past.{IsNew}
 use Rattle.h5w_session.proofs.LawLemmas.{standing_laws}
-use Rattle.h5w_session.proofs.PastLemmas.{new_end}
+use Rattle.h5w_session.proofs.PastLemmas.{new_end, spent_in-events}
 use Rattle.h5w_core.specs.Readers.{reader_at}
 use Rattle.h5w_steady.specs.Steady.{steady}
 use Rattle.h5w_core.specs.Worlds.{WorldView, HaveOneLog, IsStateOf, Steps, full_reply, polling_by, polling_of, rules_of}
-use Rattle.h5w_core.proofs.StateLemmas.{columns_of, in_rows, load_of-log, new_now, rules_by, spent_in-events}
+use Rattle.h5w_core.proofs.StateLemmas.{columns_of, in_rows, load_of-log, new_now, rules_by}
 use Rattle.h5w_core.proofs.WorldLemmas.{world_of, replaced, with_session}
 
 -- ---- A session that may hold more blocks

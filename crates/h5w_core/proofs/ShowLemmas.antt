@@ -1,6 +1,5 @@
 -- The oldest pending piece becomes visible.
-use Rattle.std.proofs.Common.{◌≡◌, ◌≢◌, ◌⊎◌, ℕ, suc, ◌-◌, ◌<◌, ◌≤◌, List, [], ◌∷◌, ◌++◌, length, Bool, true, false, nat_lt, if◌then◌else◌, min, sym, refl, ap, ◌∙◌, subst, inl, inr, arith, length-append, Option, None, ℤ}
-use Rattle.std.specs.List.{slice_get}
+use Rattle.std.proofs.Common.{◌≡◌, ◌≢◌, ◌⊎◌, ℕ, suc, ◌-◌, ◌<◌, ◌≤◌, List, [], ◌∷◌, ◌++◌, length, Bool, true, false, nat_lt, if◌then◌else◌, min, sym, refl, ap, ◌∙◌, subst, inl, inr, arith, length-append, Option, ℤ}
 use Rattle.std.proofs.lemmas.Bool.{lt-ltb}
 use Rattle.h5w_model.specs.Images.{image}
 use Rattle.h5w_model.specs.Logs.{Log, Cutting, Happening, appends, plans, shows, hist, appended, flushed_rows, spent, and_now}
@@ -14,18 +13,19 @@ use Rattle.h5w_polling.specs.Polling.{Polling, now}
 use Rattle.h5w_polling.specs.Scripts.{AllPoll}
 use Rattle.h5w_polling.proofs.ScriptLemmas.{writer_line_laws}
 use Rattle.h5w_model.specs.Datasets.{Described}
-use Rattle.h5w_space.specs.Space.{Space}
-use Rattle.h5w_session.specs.Sessions.{Session, AfterPiece, Freed, Settles, cutting_of, rows_of}
+use Rattle.h5w_session.specs.Sessions.{Session, AfterPiece, Settles, cutting_of, rows_of}
 use Rattle.h5w_session.specs.Stands.{Stands}
 use Rattle.h5w_session.proofs.LawLemmas.{standing_laws}
 use Rattle.h5w_core.specs.Worlds.{WorldView, HaveOneLog, IsStateOf, StandsFor, Steps, logged, polling_by, polling_of, rules_of, shown_world}
-use Rattle.h5w_core.proofs.StateLemmas.{in_rows, new_now, rules_by, spent_in-events}
+use Rattle.h5w_core.proofs.StateLemmas.{in_rows, new_now, rules_by}
 use Rattle.h5w_core.proofs.WorldLemmas.{world_of, shown_is}
 use Rattle.h5w_image.specs.Memory.{MemView}
 use Rattle.h5w_image.specs.View.{Wrote}
 use Rattle.h5w_reader.specs.declared.reader.ReaderCore.{ReaderCore}
 use Rattle.h5w_core.specs.Readers.{reader_at}
 use Rattle.h5w_steady.specs.Steady.{steady}
+use Rattle.h5w_session_laws.proofs.PieceLemmas.{freed_limit}
+use Rattle.h5w_session.proofs.PastLemmas.{spent_in-events}
 
 -- ---- Nothing is pending
 
@@ -64,11 +64,6 @@ idle_steps w none =
     }
 
 -- ---- A piece becomes visible
-
--- what was freed leaves the limit
-freed_limit : (b : Bool) (s t : Space) → Freed b s t → t.limit ≡ s.limit
-freed_limit true s t is = ap (λ (x : Space). x.limit) is
-freed_limit false s t is = is.limit
 
 -- what a piece leaves of its session
 pub record AfterFacts (s t : Session) (ws : List Write) : Type 0 where
@@ -316,10 +311,6 @@ show_logged s t m n attempts readers w piece pieces reply view pending wrote sta
     subst (λ (l : Log). StandsFor (world_of t n attempts readers) l) (sym (logged_piece w piece pieces reply log there))
     (subst (λ (x : WorldView). StandsFor x (and_now (shows piece) log)) (sym (shown_is s t m n attempts readers piece wrote))
     (shown_stands (world_of s m attempts readers) piece t log (stands log stood_there.stands) stood_there))
-
-pub no_piece : (ws : List Write) → None ≡ slice_get ws 0 → ws ≡ []
-no_piece [] none = refl
-no_piece (w ∷ ws) none = cc
 
 pub nothing_logged : (w : WorldView) (reply : Reply) → w.session.pending ≡ [] → (log : Log) → StandsFor w log → StandsFor w (logged w events.Visible reply log)
 nothing_logged w reply none log stood = subst (λ (l : Log). StandsFor w l) (sym (logged_nothing w reply log none)) stood

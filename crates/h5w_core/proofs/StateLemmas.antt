@@ -1,10 +1,10 @@
 -- What a world's state in a script is worth: its loads and rows by the log.
-use Rattle.std.proofs.Common.{◌≡◌, ℕ, ◌+◌, ◌*◌, ◌/◌, ◌<◌, List, [], ◌∷◌, ◌++◌, length, ℤ, refl, sym, ap, ◌∙◌, arith, length-append}
+use Rattle.std.proofs.Common.{◌≡◌, ℕ, ◌+◌, ◌*◌, ◌/◌, ◌<◌, List, [], ◌∷◌, ◌++◌, length, ℤ, sym, ap, ◌∙◌, arith, length-append}
 use Rattle.std.proofs.Math.Nat.{add-mul-div_right}
 use Rattle.std.proofs.lemmas.Nat.{div-mul-add}
 use Rattle.h5w_model.specs.Datasets.{Described}
 use Rattle.h5w_model.specs.Tables.{format_limits, limit_of}
-use Rattle.h5w_model.specs.Logs.{Log, Happening, Cutting, and_now, appends, plans, shows, appended, flushed, flushed_rows, load, spent_in, touched_chunks}
+use Rattle.h5w_model.specs.Logs.{Log, Happening, and_now, appended, flushed, flushed_rows, load, touched_chunks}
 use Rattle.h5w_model.specs.Logs as logs
 use Rattle.h5w_model.specs.Lawful.{Rules, ScriptState, load_of, rows_in}
 use Rattle.h5w_session.specs.Past.{IsNew}
@@ -34,13 +34,6 @@ more_rows g all vs some rows =
     let c = g.cutting.columns in
     let own : length vs / c ≡ rows.0 = ap (λ (n : ℕ). n / c) (rows.1 ∙ (let whole : rows.0 * c ≡ rows.0 * c + 0 = omega arith in whole)) ∙ div-mul-add rows.0 c 0 some in
     ap (λ (n : ℕ). n / c) (length-append all vs ∙ ap (λ (n : ℕ). length all + n) rows.1) ∙ add-mul-div_right (length all) rows.0 some ∙ ap (λ (n : ℕ). rows_in g all + n) (sym own)
-
--- the loads of a log rest on what it began with alone
-pub spent_in-events : (c : Cutting) (log : Log) (other es : List Happening) → spent_in c (record log { events = other }) es ≡ spent_in c log es
-spent_in-events c log other [] = refl
-spent_in-events c log other (appends vs ∷ es) = ap (λ n. n + load c (record log { events = appends vs ∷ es })) (spent_in-events c log other es)
-spent_in-events c log other (plans k ∷ es) = ap (λ n. n + load c (record log { events = es })) (spent_in-events c log other es)
-spent_in-events c log other (shows w ∷ es) = spent_in-events c log other es
 
 -- the load by the state is that by the log
 pub load_of-log : (g : Rules) (s : ScriptState) (vs : List ℤ) (log : Log) → log.columns ≡ g.cutting.columns → s.flushed ≡ flushed_rows log → vs ≡ appended log → load_of g s vs ≡ load g.cutting log

@@ -1,7 +1,5 @@
 -- What a call of the session, or a write, leaves of the world.
-use Rattle.std.proofs.Common.{◌≡◌, ℕ, List, [], ◌∷◌, ◌++◌, drop, Option, Some, sym, ap, ◌∙◌}
-use Rattle.std.specs.List.{slice_get}
-use Rattle.std.specs.Option.{unwrap_or}
+use Rattle.std.proofs.Common.{◌≡◌, ℕ, List, [], ◌∷◌, ◌++◌, Option, sym, ap, ◌∙◌}
 use Rattle.h5w_model.specs.Images.{image}
 use Rattle.h5w_model.specs.declared.piece.Write.{Write}
 use Rattle.h5w_model.proofs.ImageLemmas.{image-push}
@@ -11,6 +9,7 @@ use Rattle.h5w_session.specs.Sessions.{Session}
 use Rattle.h5w_reader.specs.declared.reader.ReaderCore.{ReaderCore}
 use Rattle.h5w_steady.specs.Steady.{steady}
 use Rattle.h5w_core.specs.Worlds.{WorldView, shown_world}
+use Rattle.h5w_session_laws.proofs.PieceLemmas.{some_is}
 
 -- a world by its parts
 abbrev pub world_of : Session → MemView → ℕ → List (Option ReaderCore) → WorldView
@@ -20,9 +19,6 @@ world_of s m attempts readers = record { session = s; bytes = m.bytes; journal =
 abbrev pub with_session : WorldView → Session → WorldView
 with_session w t = record w { session = t }
 
-some_is : {A : Type 0} (a b : A) → Some a ≡ Some b → a ≡ b
-some_is a b same = ap (λ o. unwrap_or o a) same
-
 -- the image is as before, and the session is changed
 pub changed : (s t : Session) (m n : MemView) (attempts : ℕ) (readers : List (Option ReaderCore)) → Same (steady m) (steady n) → (next : Session → Session) → t ≡ next s
     → world_of t n attempts readers ≡ record (world_of s m attempts readers) { session = next s }
@@ -30,11 +26,6 @@ changed s t m n attempts readers same next is =
     let bytes = some_is n.bytes m.bytes same.bytes in
     let journal = some_is n.history m.history same.history in
     λ i. record { session = is i; bytes = bytes i; journal = journal i; attempts = attempts; readers = readers }
-
--- the oldest of some writes
-pub oldest : (w : Write) (ws : List Write) → Some w ≡ slice_get ws 0 → ws ≡ w ∷ drop 1 ws
-oldest w [] none = cc
-oldest w (x ∷ xs) same = ap (λ y. y ∷ xs) (sym (some_is w x same))
 
 -- the image is as before, whatever the session is
 pub replaced : (s t : Session) (m n : MemView) (attempts : ℕ) (readers : List (Option ReaderCore)) → Same (steady m) (steady n) → world_of t n attempts readers ≡ with_session (world_of s m attempts readers) t

@@ -4,7 +4,8 @@ use Rattle.h5w_model.specs.Images.{image}
 use Rattle.h5w_model.specs.Logs.{Log, appended, hist, spent}
 use Rattle.h5w_image.specs.Memory.{MemView}
 use Rattle.h5w_creation_laws.specs.CreatedFiles.{created_writes, described_of}
-use Rattle.h5w_session.specs.Creations.{log_of, new_file}
+use Rattle.h5w_session.specs.Creations.{log_of}
+use Rattle.h5w_form.specs.NewFiles.{new_file}
 use Rattle.h5w_session.specs.Past.{IsNew}
 use Rattle.h5w_session.specs.Room.{HasRoomFor}
 use Rattle.h5w_session.specs.Sessions.{Session, cutting_of}

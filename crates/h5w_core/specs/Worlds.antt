@@ -23,7 +23,8 @@ use Rattle.h5w_space.specs.declared.Full.{Full}
 use Rattle.h5w_steady.specs.Steady.{steady}
 use Rattle.h5w_types.specs.Fields.{int_type_of}
 use Rattle.h5w_creation_laws.specs.CreatedFiles.{created_writes}
-use Rattle.h5w_session.specs.Creations.{log_of, new_file}
+use Rattle.h5w_session.specs.Creations.{log_of}
+use Rattle.h5w_form.specs.NewFiles.{new_file}
 use Rattle.h5w_session.specs.Refusals.{append_refusal, flush_refusal}
 use Rattle.h5w_session.specs.Room.{HasRoomFor}
 use Rattle.h5w_session.specs.Flushes.{SameBut}

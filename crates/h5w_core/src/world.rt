@@ -9,7 +9,7 @@ ghost use Rattle.h5w_model.specs.declared.piece.Write.{Write};
 ghost use Rattle.h5w_image.specs.View.{Wrote};
 ghost use Rattle.h5w_space.specs.declared.Full.{Full};
 ghost use Rattle.h5w_creation_laws.specs.CreatedFiles.{created_writes};
-ghost use Rattle.h5w_session.specs.Creations.{new_file};
+ghost use Rattle.h5w_form.specs.NewFiles.{new_file};
 ghost use Rattle.h5w_session.specs.Refusals.{IsFullFor};
 ghost use Rattle.h5w_session.specs.Room.{HasRoomFor};
 ghost use Rattle.h5w_session.specs.Sessions.{AfterPiece, rows_of as session_rows};

@@ -22,3 +22,4 @@ pub mod ReadLooks
 pub mod StillLemmas
 pub mod StillReads
 pub mod PartReads
+pub mod ShowingLemmas

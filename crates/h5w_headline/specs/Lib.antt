@@ -3,4 +3,5 @@ pub mod Bounds
 pub mod Known
 pub mod Still
 pub mod Partly
+pub mod Showing
 pub mod Examples

@@ -28,13 +28,13 @@ use Rattle.h5w_space.specs.declared.Full.{Full}
 use Rattle.h5w_shared.specs.Seats.{ImageId, SeatView}
 use Rattle.h5w_live_laws.specs.Lines.{rows_told}
 use Rattle.h5w_live_laws.proofs.LineLemmas.{agree_more, tells_more, values_more}
-use Rattle.h5w_live.specs.Writing.{HasAppended, HasFlushed, HasRoom, HasWritten, LacksPlace, StaysSeated, Writes, batch_refusal, cutting_for, showing, too_many}
+use Rattle.h5w_live.specs.Writing.{HasAppended, HasFlushed, HasRoom, HasWritten, LacksPlace, StaysSeated, Writes, batch_refusal, cutting_for, too_many}
+use Rattle.h5w_headline.specs.Showing.{showing}
 use Rattle.h5w_live.proofs.RowLemmas.{batches_more, rows_in_values, some_rows}
-use Rattle.h5w_live.proofs.WritingLemmas.{Shown, after_flush, after_pending, appended_showing, hist_showing, is_new, put_behind, shown_stays}
-use Rattle.h5w_live.proofs.FlushedLemmas.{before_last, flushed_level, flushed_showing, pieces_last, rows_all, rows_last}
-
-none_some : {A : Type 0} (a : A) → ◌≡◌ {A = Option A} None (Some a) → ⊥
-none_some a e = cc
+use Rattle.h5w_live.proofs.WritingLemmas.{Shown, after_flush, is_new, put_behind, shown_stays}
+use Rattle.h5w_live.proofs.FlushedLemmas.{before_last, flushed_level, pieces_last, rows_all, rows_last}
+use Rattle.h5w_headline.proofs.ShowingLemmas.{appended_showing, flushed_showing, hist_showing}
+use Rattle.h5w_session_laws.proofs.PieceLemmas.{after_pending, none_some}
 
 -- what is not too many is few
 few_of : (f : CreatedFile) (rows : ℕ) → too_many f rows ≡ None → needed_chunks (cutting_for f) rows ≤ limit_of format_limits f.index

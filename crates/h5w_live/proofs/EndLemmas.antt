@@ -1,7 +1,7 @@
 -- The creation of a file, and its close.
 use Rattle.std.proofs.Common.{◌≡◌, ◌⊎◌, ℕ, ◌+◌, ◌-◌, ◌*◌, ◌/◌, ◌<◌, ◌≤◌, false, List, [], ◌∷◌, ◌++◌, length, map, take, ℤ, Ok, sym, refl, ap, ◌∙◌, subst, arith, inl, inr, length-append}
 use Rattle.std.proofs.lemmas.Bool.{cases_lt}
-use Rattle.std.proofs.lemmas.List.{length-map, take-append-le, take_all}
+use Rattle.std.proofs.lemmas.List.{take-append-le, take_all}
 use Rattle.h5w_model.specs.Agrees.{rows_after, values_in}
 use Rattle.h5w_model.specs.declared.cell.IndexKind.{IndexKind}
 use Rattle.h5w_model.specs.declared.cell.IndexKind.TheVariants.{Array, Tree}
@@ -12,17 +12,20 @@ use Rattle.h5w_model.specs.declared.piece.Write.{Write}
 use Rattle.h5w_model.specs.declared.report.FlushLine.{FlushLine}
 use Rattle.h5w_model.specs.declared.root.Super.{Super}
 use Rattle.h5w_laws.proofs.LogLemmas.{events_at_earlier, events_at_now, length_hist}
-use Rattle.h5w_creation_laws.specs.CreatedFiles.{CreatedFile, IsCreatable, block_write, created_blocks, created_log, created_writes, described_of, header_block, index_blocks, root_block, super_block}
+use Rattle.h5w_creation_laws.specs.CreatedFiles.{CreatedFile, IsCreatable, block_write, created_log, created_writes, described_of, header_block, index_blocks, root_block, super_block}
 use Rattle.h5w_session.specs.Creations.{IsCreated, log_of}
 use Rattle.h5w_session.specs.Sessions.{AfterPiece, Session, cleared, closed_of, closed_root, with_rows}
 use Rattle.h5w_session.specs.Stands.{Stands}
 use Rattle.h5w_shared.specs.Seats.{HasMadeRoom, ImageId, SeatView}
 use Rattle.h5w_live.specs.Reports.{before_close}
-use Rattle.h5w_live.specs.Writing.{HasClosed, HasFlushed, HasRoom, HasWritten, showing}
-use Rattle.h5w_live.proofs.WritingLemmas.{after_early, after_pending, appended_showing, hist_showing, shown_stays}
-use Rattle.h5w_live.proofs.FlushedLemmas.{events_among, flushed_level, flushed_showing, rows_all}
+use Rattle.h5w_live.specs.Writing.{HasClosed, HasFlushed, HasRoom, HasWritten}
+use Rattle.h5w_headline.specs.Showing.{showing}
+use Rattle.h5w_live.proofs.WritingLemmas.{after_early, shown_stays}
+use Rattle.h5w_live.proofs.FlushedLemmas.{flushed_level, rows_all}
 use Rattle.h5w_live.proofs.BatchLemmas.{log_rows, rows_flushed}
 use Rattle.h5w_live.proofs.RowLemmas.{none_needed, rows_in_values}
+use Rattle.h5w_headline.proofs.ShowingLemmas.{appended_showing, events_among, flushed_showing, hist_showing}
+use Rattle.h5w_session_laws.proofs.PieceLemmas.{after_pending}
 
 -- ---- The creation
 
@@ -33,10 +36,6 @@ some_blocks Tree f = omega arith
 
 pub some_pieces : (f : CreatedFile) (most : ℕ) (s : Session) → IsCreated f most s → 1 ≤ length s.pending
 some_pieces f most s made = omega (arith, ap (λ (x : Session). length x.pending) made.session, some_blocks f.index f)
-
--- a reader finds the file once all of them are visible
-pub first_is : (f : CreatedFile) → length (created_writes f) ≡ length (created_blocks f)
-first_is f = length-map (created_blocks f) block_write
 
 -- no rows are flushed by pieces alone
 none_flushed : (f : CreatedFile) (ws : List Write) (p : ℕ) → 1 ≤ f.columns → p ≤ length ws → flushed_at (log_of f (showing ws [])) p ≡ 0

@@ -1,39 +1,16 @@
 -- What is flushed at the positions of a batch's pieces.
-use Rattle.std.proofs.Common.{◌≡◌, ◌⊎◌, ℕ, zero, suc, ◌+◌, ◌-◌, ◌/◌, ◌<◌, ◌≤◌, List, [], ◌∷◌, ◌++◌, length, take, ℤ, sym, refl, ap, ◌∙◌, arith, inl, inr}
+use Rattle.std.proofs.Common.{◌≡◌, ◌⊎◌, ℕ, ◌+◌, ◌-◌, ◌/◌, ◌<◌, ◌≤◌, List, [], ◌∷◌, ◌++◌, length, take, ℤ, sym, refl, ap, ◌∙◌, arith, inl, inr}
 use Rattle.std.specs.Prelude.{nat_le}
 use Rattle.std.proofs.lemmas.Bool.{cases_lt, cond-false, lt-leb, cond-true, le-leb}
 use Rattle.std.proofs.lemmas.List.{length-take}
 use Rattle.h5w_model.specs.Agrees.{FlushesAgree, rows_after}
-use Rattle.h5w_model.specs.Logs.{Happening, Log, appended, appended_in, appends, events_at, flushed, flushed_at, flushed_in, hist, plans, rows_in, shown, shows}
+use Rattle.h5w_model.specs.Logs.{Happening, Log, appended, appended_in, appends, events_at, flushed, flushed_at, flushed_in, hist, plans, rows_in, shown}
 use Rattle.h5w_model.specs.declared.piece.Write.{Write}
 use Rattle.h5w_model.specs.declared.report.FlushLine.{FlushLine}
-use Rattle.h5w_laws.proofs.LogLemmas.{events_at_earlier, events_at_now, flushed_begins, length_hist, rises_behind}
+use Rattle.h5w_laws.proofs.LogLemmas.{events_at_earlier, flushed_begins, length_hist, rises_behind}
 use Rattle.h5w_live_laws.specs.Lines.{pieces_in, rows_told}
-use Rattle.h5w_live.specs.Writing.{showing}
-
--- ---- Events at positions
-
-shown_showing : (ws : List Write) (es : List Happening) → shown (showing ws es) ≡ shown es + length ws
-shown_showing [] es = omega arith
-shown_showing (w ∷ ws) es = omega (arith, shown_showing ws (shows w ∷ es))
-
--- behind all pieces that were shown before
-pub events_before : (p : ℕ) (ws : List Write) (es : List Happening) → p ≤ shown es → events_at p (showing ws es) ≡ events_at p es
-events_before p [] es low = refl
-events_before p (w ∷ ws) es low = events_before p ws (shows w ∷ es) (omega (arith, low)) ∙ events_at_earlier p (shows w) es (omega (arith, low))
-
--- behind so many of the pieces
-pub events_among : (i : ℕ) (ws : List Write) (es : List Happening) → i ≤ length ws → events_at (shown es + i) (showing ws es) ≡ showing (take i ws) es
-events_among zero ws es low = events_before (shown es + 0) ws es (omega arith) ∙ events_at_now (shown es + 0) es (omega arith)
-events_among (suc i) [] es low = absurd (omega (arith, low))
-events_among (suc i) (w ∷ ws) es low =
-    let e : shown es + suc i ≡ shown es + 1 + i = omega arith in
-    ap (λ p. events_at p (showing ws (shows w ∷ es))) e ∙ events_among i ws (shows w ∷ es) (omega (arith, low))
-
-pub flushed_showing : (j : ℕ) (base : List ℤ) (ws : List Write) (es : List Happening) → flushed_in j base (showing ws es) ≡ flushed_in (j + length ws) base es
-flushed_showing j base [] es = ap (λ n. flushed_in n base es) (let e : j ≡ j + 0 = omega arith in e)
-flushed_showing j base (w ∷ ws) es =
-    flushed_showing j base ws (shows w ∷ es) ∙ ap (λ n. flushed_in n base es) (let e : j + length ws + 1 ≡ j + length (w ∷ ws) = omega arith in e)
+use Rattle.h5w_headline.specs.Showing.{showing}
+use Rattle.h5w_headline.proofs.ShowingLemmas.{events_among, events_before, flushed_showing, shown_showing}
 
 -- ---- Rows
 

@@ -29,11 +29,11 @@ use Rattle.h5w_live.specs.declared.report.LiveError.{LiveError}
 use Rattle.h5w_live.specs.declared.report.LiveReport.{LiveReport}
 use Rattle.h5w_live.specs.declared.threads.Beside.{Beside}
 use Rattle.h5w_live.specs.declared.threads.Written.{Written}
-use Rattle.h5w_live.proofs.EndLemmas.{first_is}
 use Rattle.h5w_live.proofs.ReaderLemmas.{reader_agrees, tells_seat}
 use Rattle.h5w_live.proofs.ReportLemmas.{all_whole, is_shut}
 use Rattle.h5w_live.proofs.RowLemmas.{few_values}
 use Rattle.h5w_live.proofs.RunLemmas.{is_run, restful}
+use Rattle.h5w_session.proofs.PastLemmas.{one_each}
 
 -- ---- The readers of one image
 
@@ -42,7 +42,7 @@ module _ (i : ImageId) (s : Session) (v : SeatView) (fs : List FlushLine) (r : R
   start = ap (λ (l : Log). l.start) j.flushed.writes.new ∙ sym j.start
 
   first : j.flushed.writes.log.first ≡ length (created_writes j.file)
-  first = ap (λ (l : Log). l.first) j.flushed.writes.new ∙ sym (first_is j.file)
+  first = ap (λ (l : Log). l.first) j.flushed.writes.new ∙ sym (one_each j.file)
 
   begins_log : (seen : List Write) → StartsWith v.seen seen → StartsWith (hist j.flushed.writes.log.events) seen
   begins_log seen h = subst (λ (ws : List Write). StartsWith ws seen) (sym j.flushed.writes.seat.pieces) h

@@ -28,10 +28,10 @@ use Rattle.h5w_shared.specs.Seats.{SeatView}
 use Rattle.h5w_live_laws.specs.Lines.{pieces_in}
 use Rattle.h5w_live.specs.Reports.{AreWhole, IsShut, IsWholeBy, header_after}
 use Rattle.h5w_live.specs.Writing.{AreBatches, AreWholeRows, HasClosed}
-use Rattle.h5w_live.proofs.EndLemmas.{first_is}
 use Rattle.h5w_live.proofs.FlushedLemmas.{pieces_rise}
 use Rattle.h5w_live.proofs.RowLemmas.{rows_in_values, some_rows}
 use Rattle.h5w_live.proofs.RunLemmas.{restful}
+use Rattle.h5w_session.proofs.PastLemmas.{one_each}
 
 -- before the next line all rows are told
 none_after : (columns pieces rows before p : ℕ) (bs : List (List ℤ)) (fs : List FlushLine) → FlushesAgree columns pieces rows bs fs → p ≤ pieces → rows_after before p fs ≡ before
@@ -60,7 +60,7 @@ module _ (f : CreatedFile) (done : List (List ℤ)) (s : Session) (v : SeatView)
   columns = ap (λ (l : Log). l.columns) h.writes.new
 
   begun : h.writes.log.first ≡ length (created_writes f)
-  begun = ap (λ (l : Log). l.first) h.writes.new ∙ sym (first_is f)
+  begun = ap (λ (l : Log). l.first) h.writes.new ∙ sym (one_each f)
 
   img : (p : ℕ) → image_at h.writes.log p ≡ image [] (take p v.seen)
   img p = ap (λ (b : List ℕ). image b (take p (hist h.writes.log.events))) (ap (λ (l : Log). l.start) h.writes.new) ∙ ap (λ (ws : List Write). image [] (take p ws)) h.writes.seat.pieces

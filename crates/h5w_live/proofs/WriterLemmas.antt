@@ -15,7 +15,8 @@ use Rattle.h5w_shared.specs.Seats.{SeatView}
 use Rattle.h5w_live_laws.proofs.LineLemmas.{agree_empty, values_more}
 use Rattle.h5w_live.specs.declared.writing.Halt.{Halt}
 use Rattle.h5w_live.specs.declared.writing.Halt.TheVariants as halts
-use Rattle.h5w_live.specs.Writing.{AreBatches, Explains, HasFlushed, LacksPlace, Refuses, batch_refusal, first_refused, showing}
+use Rattle.h5w_live.specs.Writing.{AreBatches, Explains, HasFlushed, LacksPlace, Refuses, batch_refusal, first_refused}
+use Rattle.h5w_headline.specs.Showing.{showing}
 use Rattle.h5w_live.proofs.RowLemmas.{batch_rows, batches_more}
 use Rattle.h5w_live.proofs.WritingLemmas.{put_empty}
 
@@ -139,10 +140,6 @@ batch_here f most bs k b s t v w lines all first now is within =
     let columns : s.dataset.shape.cols ≡ t.dataset.shape.cols = same_columns f most [] s v [] first ∙ sym (same_columns f most (take k bs) t w lines now) in
     let one = batch_rows s.dataset.shape.cols bs k all within in
     (one.0, ap length is ∙ one.1 ∙ ap (λ (c : ℕ). one.0 * c) columns)
-
--- batches of the file are batches of its session
-pub batches_of : (f : CreatedFile) (most : ℕ) (bs : List (List ℤ)) (s : Session) (v : SeatView) → AreBatches f.columns bs → HasFlushed f most [] s v [] → AreBatches s.dataset.shape.cols bs
-batches_of f most bs s v all h = subst (λ (c : ℕ). AreBatches c bs) (sym (same_columns f most [] s v [] h)) all
 
 -- so many batches are flushed, and none of them was refused
 pub record HasPut (f : CreatedFile) (most : ℕ) (bs : List (List ℤ)) (k : ℕ) (s : Session) (v : SeatView) (lines : List FlushLine) : Type 0 where

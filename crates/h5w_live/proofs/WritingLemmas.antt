@@ -1,33 +1,21 @@
 -- The pieces of a session become visible through its seat.
-use Rattle.std.proofs.Common.{◌≡◌, ℕ, ◌+◌, ◌-◌, ◌<◌, ◌≤◌, Bool, true, false, List, [], ◌∷◌, ◌++◌, length, ℤ, Some, None, sym, refl, ap, ◌∙◌, subst, arith, append_assoc, length-append}
+use Rattle.std.proofs.Common.{◌≡◌, ℕ, ◌+◌, ◌-◌, ◌<◌, ◌≤◌, Bool, true, false, List, [], ◌∷◌, ◌++◌, length, ℤ, sym, refl, ap, ◌∙◌, subst, arith, append_assoc, length-append}
 use Rattle.std.proofs.lemmas.List.{append-nil}
-use Rattle.std.specs.Option.{unwrap_or}
-use Rattle.std.specs.Prelude.{slice_get, drop}
 use Rattle.h5w_model.specs.Datasets.{Described}
-use Rattle.h5w_model.specs.Logs.{Happening, Log, and_now, appended_in, appends, hist, plans, shows}
+use Rattle.h5w_model.specs.Logs.{Happening, Log, and_now, appends, hist, plans, shows}
 use Rattle.h5w_model.specs.declared.piece.Write.{Write}
-use Rattle.h5w_space.specs.Space.{Space}
 use Rattle.h5w_creation_laws.specs.CreatedFiles.{CreatedFile, described_of}
 use Rattle.h5w_session.specs.Past.{IsNew}
-use Rattle.h5w_session.specs.Sessions.{AfterPiece, Freed, Session, Settles, stopped_of, with_rows}
+use Rattle.h5w_session.specs.Sessions.{AfterPiece, Session, Settles, stopped_of, with_rows}
 use Rattle.h5w_session.specs.Stands.{Stands}
 use Rattle.h5w_image.specs.View.{Same}
 use Rattle.h5w_shared.specs.Seats.{FailedSeat, ImageId, SeatView, seen_through}
 use Rattle.h5w_shared.proofs.ThreadLemmas.{through_seats}
-use Rattle.h5w_live.specs.Writing.{ArePut, HasPlaces, HasWritten, StaysSeated, Writes, showing}
-
-pub some_is : {A : Type 0} (a b : A) → Some a ≡ Some b → a ≡ b
-some_is a b same = ap (λ o. unwrap_or o a) same
+use Rattle.h5w_live.specs.Writing.{ArePut, HasPlaces, HasWritten, StaysSeated, Writes}
+use Rattle.h5w_headline.specs.Showing.{showing}
+use Rattle.h5w_session_laws.proofs.PieceLemmas.{after_pending, freed_end, freed_limit, onward}
 
 -- ---- Events
-
-pub hist_showing : (ws : List Write) (es : List Happening) → hist (showing ws es) ≡ hist es ++ ws
-hist_showing [] es = sym (append-nil (hist es))
-hist_showing (w ∷ ws) es = hist_showing ws (shows w ∷ es) ∙ append_assoc (hist es) (w ∷ []) ws
-
-pub appended_showing : (ws : List Write) (es : List Happening) → appended_in (showing ws es) ≡ appended_in es
-appended_showing [] es = refl
-appended_showing (w ∷ ws) es = appended_showing ws (shows w ∷ es)
 
 -- a batch more was put
 pub put_behind : (before now : List Happening) (bs : List (List ℤ)) (v : ℤ) (vs : List ℤ) (early ws : List Write) → ArePut before bs now
@@ -47,14 +35,6 @@ pub is_new : (f : CreatedFile) (s : Session) (v : SeatView) (w : Writes f s v) �
 is_new f s v w = record { file = f; is = w.is; log_is = w.new }
 
 -- ---- After a piece
-
-freed_end : (b : Bool) (s t : Space) → Freed b s t → t.end ≡ s.end
-freed_end true s t is = ap (λ (x : Space). x.end) is
-freed_end false s t is = is.end
-
-freed_limit : (b : Bool) (s t : Space) → Freed b s t → t.limit ≡ s.limit
-freed_limit true s t is = ap (λ (x : Space). x.limit) is
-freed_limit false s t is = is.limit
 
 -- what stays of a session while its pieces become visible
 pub record Shown (s t : Session) : Type 0 where
@@ -104,36 +84,6 @@ after_flush s t flushing after = subst (λ (b : Bool). Settles b s t) flushing a
 pub after_early : (s t : Session) → s.flushing ≡ false → AfterPiece s [] t → t ≡ record s { pending = [] }
 after_early s t settled after = subst (λ (b : Bool). Settles b s t) settled after
 
-itself : (s : Session) (ws : List Write) → s.pending ≡ ws → 0 < length ws → AfterPiece s ws s
-itself s [] is some = absurd (omega arith)
-itself s (w ∷ ws) is some = ap (λ (ps : List Write). record s { pending = ps }) is
-
--- one piece after another
-settles_onward : (b : Bool) (s : Session) (ws : List Write) (t : Session) → Settles b (record s { pending = ws }) t → Settles b s t
-settles_onward true s ws t after = after
-settles_onward false s ws t after = after
-
-onward : (s : Session) (w : Write) (ws vs : List Write) (t : Session) → AfterPiece (record s { pending = w ∷ ws }) vs t → AfterPiece s vs t
-onward s w ws [] t after = settles_onward s.flushing s (w ∷ ws) t after
-onward s w ws (v ∷ vs) t after = after
-
-settled_pending : (b : Bool) (s t : Session) → Settles b s t → t.pending ≡ []
-settled_pending true s t after = ap (λ (x : Session). x.pending) after.1
-settled_pending false s t is = ap (λ (x : Session). x.pending) is
-
-pub after_pending : (s t : Session) (ws : List Write) → AfterPiece s ws t → t.pending ≡ ws
-after_pending s t [] after = settled_pending s.flushing s t after
-after_pending s t (w ∷ ws) after = ap (λ (x : Session). x.pending) after
-
--- the oldest of some writes
-pub oldest : (w : Write) (ws : List Write) → Some w ≡ slice_get ws 0 → ws ≡ w ∷ drop 1 ws
-oldest w [] none = cc
-oldest w (x ∷ xs) same = ap (λ y. y ∷ xs) (sym (some_is w x same))
-
-pub no_piece : (ws : List Write) → None ≡ slice_get ws 0 → ws ≡ []
-no_piece [] none = refl
-no_piece (w ∷ ws) none = cc
-
 -- ---- The pieces of a plan
 
 -- a log of the session goes on to one whose pieces the seat has seen
@@ -153,18 +103,6 @@ pub record Showing (s t : Session) (v u : SeatView) : Type 0 where
   pub used : v.pieces + length t.pending ≤ u.pieces + length s.pending
   pub end : v.end ≤ u.end
   pub grown : length v.seen ≤ length u.seen
-
-pub shows_first : (s : Session) (v : SeatView) → 0 < length s.pending → HasPlaces s v → Showing s s v v
-shows_first s v some room = record {
-  session = itself s s.pending refl some;
-  image = refl;
-  seen = refl;
-  stands = λ log stood. record { events = log.events; stands = stood; showing = refl; pieces = λ e. e };
-  room = room;
-  used = omega arith;
-  end = omega arith;
-  grown = omega arith;
-}
 
 -- the seat with a piece more
 abbrev pub and_piece : Write → SeatView → SeatView
@@ -200,14 +138,6 @@ shows_next s t n v u x w ws so is after wrote stands =
       end = omega (arith, so.end, ends);
       grown = omega (arith, so.grown, ap length seen, length-append u.seen (w ∷ []));
     }
-
-pub shows_done : (s t : Session) (v u : SeatView) → Showing s t v u → t.pending ≡ [] → HasWritten s.pending v u
-shows_done s t v u so none = record {
-  image = so.image;
-  seen = sym (append-nil u.seen) ∙ ap (λ (ps : List Write). u.seen ++ ps) (sym none) ∙ so.seen;
-  pieces = omega (arith, so.used, ap length none);
-  end = so.end;
-}
 
 pub stands_done : (s t : Session) (v u : SeatView) → Showing s t v u → t.pending ≡ [] → (log : Log) → Stands s log → Stands t (record log { events = showing s.pending log.events })
 stands_done s t v u so none log stood =

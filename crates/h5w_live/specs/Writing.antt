@@ -2,7 +2,7 @@
 use Rattle.std.specs.Prelude.{◌≡◌, ℕ, ◌+◌, ◌*◌, ◌/◌, ◌<◌, ◌≤◌, false, true, List, [], ◌∷◌, ◌++◌, length, take, get_or, ℤ, nat_lt, if◌then◌else◌, Option, Some, None, Ok}
 use Rattle.h5w_model.specs.Agrees.{FlushesAgree, values_in}
 use Rattle.h5w_model.specs.Lawful.{first_outside}
-use Rattle.h5w_model.specs.Logs.{Cutting, Happening, Log, appended, appends, flushed_rows, needed_chunks, plans, shows}
+use Rattle.h5w_model.specs.Logs.{Cutting, Happening, Log, appended, appends, flushed_rows, needed_chunks, plans}
 use Rattle.h5w_model.specs.Tables.{format_limits, limit_of}
 use Rattle.h5w_model.specs.declared.piece.Write.{Write}
 use Rattle.h5w_model.specs.declared.report.FlushLine.{FlushLine}
@@ -22,6 +22,7 @@ use Rattle.h5w_model.specs.Superblock.{super_at, super_bytes}
 use Rattle.h5w_live.specs.declared.writing.Halt.{Halt}
 use Rattle.h5w_live.specs.declared.writing.Halt.TheVariants as halts
 use Rattle.h5w_live_laws.specs.Lines.{TellsFlushes, pieces_in, rows_told}
+use Rattle.h5w_headline.specs.Showing.{showing}
 
 -- ---- Batches
 
@@ -63,11 +64,6 @@ pub record HasWritten (ws : List Write) (old new : SeatView) : Type 0 where
 pub record HasPlaces (s : Session) (v : SeatView) : Type 0 where
   pub pieces : length s.pending ≤ v.pieces
   pub end : s.places.end ≤ v.end
-
--- these pieces became visible, one after another
-abbrev pub showing : List Write → List Happening → List Happening
-showing [] es = es
-showing (w ∷ ws) es = showing ws (shows w ∷ es)
 
 -- What happened behind these events is that the batches were put, one behind another, and nothing else: each that has values was appended,
 -- what was written of it early became visible, a flush planned some pieces, and these became visible.

@@ -7,7 +7,8 @@ ghost use Rattle.h5w_creation_laws.specs.CreatedFiles.{CreatedFile};
 ghost use Rattle.h5w_session.specs.Sessions.{AfterPiece};
 ghost use Rattle.h5w_session.specs.Stands.{Stands};
 ghost use Rattle.h5w_session.specs.declared.refusal.AppendError.TheVariants as appending;
-ghost use Rattle.h5w_live.specs.Writing.{HasFlushed, HasPlaces, HasRoom, HasWritten, Writes, batch_refusal, showing};
+ghost use Rattle.h5w_live.specs.Writing.{HasFlushed, HasPlaces, HasRoom, HasWritten, Writes, batch_refusal};
+ghost use Rattle.h5w_headline.specs.Showing.{showing};
 
 use h5w_image::{Failed, Gate, OpenGate};
 use h5w_pen::Pen;

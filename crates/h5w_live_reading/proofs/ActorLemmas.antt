@@ -38,9 +38,6 @@ end_more g i before calls readers seen notes lines more note h count ends = reco
 
 -- ---- Outcomes
 
-ok_is : {A E : Type 0} (a b : A) → ◌≡◌ {A = Result A E} (Ok a) (Ok b) → a ≡ b
-ok_is a b e = cc
-
 err_is : {A E : Type 0} (a b : E) → ◌≡◌ {A = Result A E} (Err a) (Err b) → a ≡ b
 err_is a b e = cc
 

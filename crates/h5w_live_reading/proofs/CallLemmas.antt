@@ -37,10 +37,6 @@ left_more : (ls : List Look) (p : Unfinished) (l : Look) → wanted (left_after 
 left_more ls (rows_left p) l next = rows_more p ls l (rest_after p ls) refl next
 left_more ls (values_left p) l next = values_more p ls l (rest_after p ls) refl next
 
-none_taken : (p : Unfinished) → left_after [] p ≡ Some p
-none_taken (rows_left p) = refl
-none_taken (values_left p) = refl
-
 sights_more : (start : List ℕ) (from : List Write) (ss : List Sight) (s : Sight) → Sights start from ss → StartsWith s.seen (seen_after from ss) → IsLookAt (image start s.seen) s.look
     → Sights start from (ss ++ s ∷ []) × (s.seen ≡ seen_after from (ss ++ s ∷ []))
 sights_more start from [] s h more is = ((more, is, tt), refl)
@@ -72,15 +68,6 @@ pub record Asking (start : List ℕ) (before now : List Write) (first last : Rea
   pub wanting : IsSome (wanted last.left)
   pub same : last ≡ with_left first last.left
   pub left : (p : Unfinished) → first.left ≡ Some p → last.left ≡ left_after (looks_in looks) p
-
-pub asking_first : (start : List ℕ) (before : List Write) (first : Reader) → IsSome (wanted first.left) → Asking start before before first first
-asking_first start before first begun = record {
-  looks = [];
-  looked = record { sights = tt; ends = refl };
-  wanting = begun;
-  same = refl;
-  left = λ p e. e ∙ sym (none_taken p);
-}
 
 abbrev sight_of : List Write → ℕ → ℕ → List ℕ → Sight
 sight_of now at count got = record { seen = now; look = record { place = at; len = count; bytes = got } }

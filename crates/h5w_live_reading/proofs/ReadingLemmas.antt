@@ -13,7 +13,7 @@ use Rattle.h5w_model.specs.declared.piece.Write.{Write}
 use Rattle.h5w_model.specs.declared.refusal.ReadError.{ReadError}
 use Rattle.h5w_model.specs.declared.refusal.ReadError.TheVariants as refusals
 use Rattle.h5w_model.specs.declared.report.PollLine.{PollLine}
-use Rattle.h5w_reader.specs.Readers.{BegunRead, IsRefused, new_reader}
+use Rattle.h5w_reader.specs.Readers.{IsRefused, new_reader}
 use Rattle.h5w_reader.specs.declared.step.Step.TheVariants as steps
 use Rattle.h5w_shared.specs.Threads.{Sight}
 use Rattle.h5w_live_laws.specs.Polls.{AnswersPoll, FindsRows, GivesUpAfter, TellPolls, looks_in, new_values, sum_after, told_after}
@@ -40,11 +40,6 @@ no_rows None t e = cc
 no_rows (Some y) t e = cc
 
 -- ---- A read
-
--- a read whose values are known without a look
-pub read_known : (start : List ℕ) (known : Option Reading) (from count : ℕ) (seen : List Write) (old new : Reader) (vs : List ℤ) → BegunRead (values_program known from count) old (Some vs) new
-    → ReadsThrough start known from count seen seen (Ok vs)
-read_known start known from count seen old new vs begun = record { looks = []; looked = record { sights = tt; ends = refl }; gives = ap Some begun.1 }
 
 module _ (start : List ℕ) (known : Option Reading) (from count : ℕ) (before after : List Write) (old begun new : Reader) (is : begun ≡ with_left old (Some (values_left (values_program known from count)))) where
   left : begun.left ≡ Some (values_left (values_program known from count))

@@ -2,12 +2,10 @@
 use Rattle.std.proofs.Common.{◌≡◌, ◌⊎◌, ℕ, suc, ◌+◌, ◌*◌, ◌/◌, ◌%◌, ◌^◌, ◌<◌, ◌≤◌, List, [], ◌∷◌, ◌++◌, length, ℤ, Bool, true, false, nat_lt, cond, sym, refl, ap, ◌∙◌, subst, arith, append_assoc, length-append, Option, Some, None, inl, inr}
 use Rattle.std.proofs.lemmas.Bool.{cond-false, le-ltb}
 use Rattle.std.proofs.lemmas.List.{append-nil}
-use Rattle.std.specs.Option.{unwrap_or}
-use Rattle.std.specs.Prelude.{slice_get, drop}
 use Rattle.h5w_model.specs.Images.{image}
 use Rattle.h5w_model.specs.Datasets.{Described}
 use Rattle.h5w_model.specs.Lawful.{first_outside}
-use Rattle.h5w_model.specs.Logs.{Cutting, Happening, Log, and_now, appended, appends, flushed, hist, load, plans, rows_in, shows, spent, spent_in}
+use Rattle.h5w_model.specs.Logs.{Cutting, Happening, Log, and_now, appended, appends, flushed, hist, load, plans, shows, spent, spent_in}
 use Rattle.h5w_model.specs.Superblock.{super_bytes}
 use Rattle.h5w_model.specs.Tables.{format_limits, limit_of, needed}
 use Rattle.h5w_model.specs.declared.piece.Write.{Write}
@@ -21,32 +19,25 @@ use Rattle.h5w_creation_laws.specs.CreatedFiles.{IsCreatable, created_log, creat
 use Rattle.h5w_session.specs.Creations.{IsCreated, log_of}
 use Rattle.h5w_session.specs.Past.{IsNew}
 use Rattle.h5w_session.specs.Room.{HasRoomFor}
-use Rattle.h5w_session.specs.Refusals.{IsSpace, append_refusal, chunks_refusal, close_refusal, flush_refusal}
-use Rattle.h5w_session.specs.Sessions.{AddsValues, AfterPiece, Freed, Session, Settles, TakesRows, chunk_limit, chunks_with, cleared, closed_of, closed_root, cutting_of, rows_of, with_rows, with_values, IsNamed}
+use Rattle.h5w_session.specs.Refusals.{IsSpace, append_refusal, chunks_refusal, flush_refusal}
+use Rattle.h5w_session.specs.Sessions.{AddsValues, AfterPiece, Session, Settles, TakesRows, chunk_limit, chunks_with, cleared, closed_of, closed_root, cutting_of, rows_of, with_rows, with_values, IsNamed}
 use Rattle.h5w_session.specs.Stands.{Stands}
 use Rattle.h5w_session.specs.declared.refusal.AppendError.{AppendError}
 use Rattle.h5w_session.specs.declared.refusal.AppendError.TheVariants as errors
 use Rattle.h5w_session.specs.declared.refusal.FlushError.{FlushError}
 use Rattle.h5w_session.specs.declared.refusal.FlushError.TheVariants as flushes
-use Rattle.h5w_session.proofs.PastLemmas.{new_end}
+use Rattle.h5w_session.proofs.PastLemmas.{new_end, spent_in-events}
 use Rattle.h5w_session.proofs.LawLemmas.{standing_laws, shown_laws}
 use Rattle.h5w_steady.specs.Steady.{steady}
-use Rattle.h5w_make.specs.Commands.{new_file, showing, values_of}
+use Rattle.h5w_make.specs.Commands.{new_file, values_of}
+use Rattle.h5w_headline.specs.Showing.{showing}
 use Rattle.h5w_make.specs.States.{HasPlace, IsAfter, IsAppended, IsClosed, IsTaken, ShowsAll}
-use Rattle.h5w_make.proofs.EventLemmas.{appended_batches, appended_showing, cutting, hist_showing, load_bound, spent_in-events, spent_showing}
+use Rattle.h5w_make.proofs.EventLemmas.{appended_batches, cutting, load_bound, spent_showing}
 use Rattle.h5w_session.proofs.FlushCalls.{takes_named}
-
-pub some_is : {A : Type 0} (a b : A) → Some a ≡ Some b → a ≡ b
-some_is a b same = ap (λ o. unwrap_or o a) same
-
-none_some : {A : Type 0} (a : A) → ◌≡◌ {A = Option A} None (Some a) → ⊥
-none_some a e = cc
+use Rattle.h5w_headline.proofs.ShowingLemmas.{appended_showing, hist_showing}
+use Rattle.h5w_session_laws.proofs.PieceLemmas.{after_pending, freed_limit, itself, none_some, onward, some_is}
 
 -- ---- Once all pieces became visible
-
-freed_limit : (b : Bool) (s t : Space) → Freed b s t → t.limit ≡ s.limit
-freed_limit true s t is = ap (λ (x : Space). x.limit) is
-freed_limit false s t is = is.limit
 
 record AllShown (s t : Session) : Type 0 where
   name : t.name ≡ s.name
@@ -342,10 +333,6 @@ pub record Showing (s t : Session) (m n : MemView) : Type 0 where
   pub stands : (log : Log) → Stands s log → (es : List Happening) × Stands t (record log { events = es }) × (showing t.pending es ≡ showing s.pending log.events)
   pub room : HasRoomFor t (steady n)
 
-itself : (s : Session) (ws : List Write) → s.pending ≡ ws → 0 < length ws → AfterPiece s ws s
-itself s [] is some = absurd (omega arith)
-itself s (w ∷ ws) is some = ap (λ (ps : List Write). record s { pending = ps }) is
-
 pub shows_first : (s : Session) (m : MemView) → 0 < length s.pending → HasRoomFor s (steady m) → Showing s s m m
 shows_first s m some room = record {
   session = itself s s.pending refl some;
@@ -354,19 +341,6 @@ shows_first s m some room = record {
   stands = λ log stood. (log.events, stood, refl);
   room = room;
 }
-
--- one piece after another
-settles_onward : (b : Bool) (s : Session) (ws : List Write) (t : Session) → Settles b (record s { pending = ws }) t → Settles b s t
-settles_onward true s ws t settles = settles
-settles_onward false s ws t is = is
-
-onward : (s : Session) (w : Write) (ws vs : List Write) (t : Session) → AfterPiece (record s { pending = w ∷ ws }) vs t → AfterPiece s vs t
-onward s w ws [] t after = settles_onward s.flushing s (w ∷ ws) t after
-onward s w ws (v ∷ vs) t after = after
-
-pub after_pending : (s t : Session) (ws : List Write) → AfterPiece s ws t → t.pending ≡ ws
-after_pending s t [] after = (all_shown s t after).pending
-after_pending s t (w ∷ ws) after = ap (λ (x : Session). x.pending) after
 
 pub shows_next : (s t u : Session) (m n o : MemView) (w : Write) (ws : List Write) → Showing s t m n → t.pending ≡ w ∷ ws → AfterPiece t ws u → Wrote (w ∷ []) (steady n) (steady o)
     → ((log : Log) → Stands t log → Stands u (and_now (shows w) log)) → HasRoomFor u (steady o) → Showing s u m o
@@ -401,15 +375,6 @@ stands_done s t m n so none log stood =
     let now = so.stands log stood in
     let all : now.0 ≡ showing s.pending log.events = ap (λ (ps : List Write). showing ps now.0) (sym none) ∙ now.2 in
     subst (λ (es : List Happening). Stands t (record log { events = es })) all now.1
-
--- the oldest of some writes
-pub oldest : (w : Write) (ws : List Write) → Some w ≡ slice_get ws 0 → ws ≡ w ∷ drop 1 ws
-oldest w [] none = cc
-oldest w (x ∷ xs) same = ap (λ y. y ∷ xs) (sym (some_is w x same))
-
-pub no_piece : (ws : List Write) → None ≡ slice_get ws 0 → ws ≡ []
-no_piece [] none = refl
-no_piece (w ∷ ws) none = cc
 
 -- ---- Pieces that were written early
 

@@ -1,19 +1,12 @@
 -- The events of batches: their pieces, their values and their loads.
-use Rattle.std.proofs.Common.{◌≡◌, ℕ, ◌+◌, ◌-◌, ◌*◌, ◌/◌, ◌≤◌, List, [], ◌∷◌, ◌++◌, length, ℤ, nat_lt, sym, refl, ap, ◌∙◌, arith, append_assoc}
+use Rattle.std.proofs.Common.{◌≡◌, ℕ, ◌+◌, ◌-◌, ◌*◌, ◌/◌, ◌≤◌, List, [], ◌∷◌, ◌++◌, length, ℤ, nat_lt, refl, ap, ◌∙◌, arith}
 use Rattle.std.proofs.lemmas.Bool.{cond_both}
-use Rattle.std.proofs.lemmas.List.{append-nil}
-use Rattle.h5w_model.specs.Logs.{Cutting, Happening, Log, appended, appended_in, appends, div_up, flushed, hist, load, plans, shows, spent_in, touched_chunks}
+use Rattle.h5w_model.specs.Logs.{Cutting, Happening, Log, appended, appended_in, appends, div_up, flushed, load, plans, shows, spent_in, touched_chunks}
 use Rattle.h5w_model.specs.declared.piece.Write.{Write}
 use Rattle.h5w_creation_laws.specs.CreatedFiles.{created_writes}
-use Rattle.h5w_make.specs.Commands.{AreBatches, new_file, showing, values_of}
-
-pub hist_showing : (ws : List Write) (es : List Happening) → hist (showing ws es) ≡ hist es ++ ws
-hist_showing [] es = sym (append-nil (hist es))
-hist_showing (w ∷ ws) es = hist_showing ws (shows w ∷ es) ∙ append_assoc (hist es) (w ∷ []) ws
-
-pub appended_showing : (ws : List Write) (es : List Happening) → appended_in (showing ws es) ≡ appended_in es
-appended_showing [] es = refl
-appended_showing (w ∷ ws) es = appended_showing ws (shows w ∷ es)
+use Rattle.h5w_make.specs.Commands.{AreBatches, new_file, values_of}
+use Rattle.h5w_headline.specs.Showing.{showing}
+use Rattle.h5w_headline.proofs.ShowingLemmas.{appended_showing}
 
 pub spent_showing : (c : Cutting) (log : Log) (ws : List Write) (es : List Happening) → spent_in c log (showing ws es) ≡ spent_in c log es
 spent_showing c log [] es = refl
@@ -27,13 +20,6 @@ appended_batches (b ∷ bs) es h =
     ∙ appended_showing h.2.pieces (plans (length h.2.pieces) ∷ showing h.2.early (appends b ∷ h.0))
     ∙ appended_showing h.2.early (appends b ∷ h.0)
     ∙ ap (λ (vs : List ℤ). vs ++ b) (appended_batches bs h.0 h.1)
-
--- the loads of some events, by what a log has else
-pub spent_in-events : (c : Cutting) (log : Log) (other es : List Happening) → spent_in c (record log { events = other }) es ≡ spent_in c log es
-spent_in-events c log other [] = refl
-spent_in-events c log other (appends vs ∷ es) = ap (λ n. n + load c (record log { events = appends vs ∷ es })) (spent_in-events c log other es)
-spent_in-events c log other (plans k ∷ es) = ap (λ n. n + load c (record log { events = es })) (spent_in-events c log other es)
-spent_in-events c log other (shows w ∷ es) = spent_in-events c log other es
 
 -- how the file is cut
 abbrev pub cutting : Cutting

@@ -7,6 +7,7 @@ use Rattle.h5w_model.specs.declared.root.Super.{Super}
 use Rattle.h5w_model.specs.declared.cell.IndexKind.TheVariants.{Array}
 use Rattle.h5w_creation_laws.specs.CreatedFiles.{CreatedFile, created_writes}
 use Rattle.h5w_make.specs.Generators.{generated, state_after}
+use Rattle.h5w_headline.specs.Showing.{showing}
 
 -- the bytes of the name "data"
 abbrev pub data_name : List ℕ
@@ -27,11 +28,6 @@ new_file = record {
 }
 
 -- ---- Events, the newest first
-
--- these pieces became visible, one after another
-abbrev pub showing : List Write → List Happening → List Happening
-showing [] es = es
-showing (w ∷ ws) es = showing ws (shows w ∷ es)
 
 -- Values were appended, some pieces that were written early became visible, a flush planned others, and each of them became visible.
 pub record IsBatch (values : List ℤ) (before after : List Happening) : Type 0 where

@@ -12,7 +12,8 @@ use Rattle.h5w_session.specs.Creations.{log_of}
 use Rattle.h5w_session.specs.Past.{IsNew}
 use Rattle.h5w_session.specs.Sessions.{AddsValues, Session, cutting_of, with_rows}
 use Rattle.h5w_session.specs.Stands.{Stands}
-use Rattle.h5w_make.specs.Commands.{AreBatches, AreClosed, data_name, new_file, showing, values_of}
+use Rattle.h5w_make.specs.Commands.{AreBatches, AreClosed, data_name, new_file, values_of}
+use Rattle.h5w_headline.specs.Showing.{showing}
 
 -- All pieces of these batches are visible: the image is that of the session's log, and nothing is pending or waits.
 pub record IsAfter (bs : List (List ℤ)) (s : Session) (m : MemView) : Type 0 where

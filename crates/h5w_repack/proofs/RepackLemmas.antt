@@ -1,7 +1,6 @@
 -- What is left of a new file that is not whole, and what one is that is.
 use Rattle.std.proofs.Common.{◌≡◌, inl, inr, ℕ, ◌≤◌, List, [], ◌++◌, Option, Some, None, refl, sym, ap, ◌∙◌, subst, arith}
 use Rattle.std.specs.Prelude.{IfSome, Result, Err, ◌⊎◌, option_map}
-use Rattle.std.specs.List.{All}
 use Rattle.std.proofs.lemmas.List.Elements.{All-nil, All-weaker}
 use Rattle.h5w_model.specs.Images.{image}
 use Rattle.h5w_model.specs.Tables.{format_limits}
@@ -18,12 +17,11 @@ use Rattle.h5w_packing.specs.Plans.{IsOut, IsPlanned}
 use Rattle.h5w_packing.proofs.WholeLemmas.{packed_whole}
 use Rattle.h5w_cache.specs.declared.plan.PlanError.{PlanError}
 use Rattle.h5w_cache.specs.declared.plan.PlanError.TheVariants as plans
-use Rattle.h5w_survey.specs.Surveys.{IsRefusedFor, IsSurveyOf}
-use Rattle.h5w_survey.specs.declared.error.SurveyError.{SurveyError}
+use Rattle.h5w_survey.specs.Surveys.{IsSurveyOf}
 use Rattle.h5w_survey.specs.declared.error.SurveyError.TheVariants as surveys
 use Rattle.h5w_survey.specs.declared.surveying.Surveyed.{Surveyed}
 use Rattle.h5w_repack.specs.Copies.{AreBehind, AreDone}
-use Rattle.h5w_repack.specs.Errors.{of_copy, of_plan, of_survey}
+use Rattle.h5w_repack.specs.Errors.{of_copy, of_plan}
 use Rattle.h5w_repack.specs.Packed.{IsNoFile, IsNotPacked, IsOutOf, IsPacked, MayBeLate}
 use Rattle.h5w_repack.specs.Pairs.{PairView}
 use Rattle.h5w_repack.specs.declared.error.CopyError.{CopyError}
@@ -87,14 +85,6 @@ out_by img name limit s full found out = record {
   file = found.file;
   out = subst (λ (t : List ℕ). IsOut name found.shown.dataset t limit full) found.table (subst (λ (d : Described). IsOut name d s.table.items limit full) found.dataset out);
 }
-
--- an error of the survey
-pub survey_error : (img name : List ℕ) (limit : ℕ) (e : SurveyError) → IsRefusedFor img name e → IsNotPacked img name limit (of_survey e)
-survey_error img name limit (surveys.Finding kind at) h = h
-survey_error img name limit (surveys.Overlap at len other other_len) h = h
-survey_error img name limit (surveys.Flags flags) h = h
-survey_error img name limit surveys.Failed h = tt
-survey_error img name limit surveys.OutOfMemory h = tt
 
 pub copy_error : (img name : List ℕ) (limit : ℕ) (e : CopyError) → IsNotPacked img name limit (of_copy e)
 copy_error img name limit copies.From = tt

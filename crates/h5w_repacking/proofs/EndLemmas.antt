@@ -42,6 +42,7 @@ memory_leaves file_name name limit to (errors.WriterVersion version) h = absurd 
 memory_leaves file_name name limit to errors.Layout h = absurd h
 memory_leaves file_name name limit to (errors.ChunkBytes bytes) h = absurd h
 memory_leaves file_name name limit to errors.NoColumns h = absurd h
+memory_leaves file_name name limit to (errors.Same one other) h = absurd h
 memory_leaves file_name name limit to (errors.FullChunks chunks most) h = absurd h
 memory_leaves file_name name limit to (errors.FullSpace at size most) h = inr (record { bytes = []; new = h; unborn = empty_unborn })
 memory_leaves file_name name limit to errors.Deep h = absurd h
@@ -76,9 +77,6 @@ repacks_nothing {v} file_name to name limit ranges status said = record {
 
 no_finding : (img name : List ℕ) (r : Reading) (f : Finding) → IsClosedFile img name r → Finds img name f → ⊥
 no_finding img name r f closed finds = elim (one_verdict.one img name) [ inl valid ↦ valid.1 (f, finds) | inr other ↦ other.1 closed.valid ]
-
-abbrev as_super : Super → Option Super
-as_super s = Some s
 
 both_flags : (b : Bool) → b ≡ true → b ≡ false → ⊥
 both_flags true e g = cc
@@ -126,6 +124,7 @@ by_answer name limit source target img r (Err (errors.WriterVersion version)) th
 by_answer name limit source target img r (Err errors.Layout) there closed missing calm h = absurd h
 by_answer name limit source target img r (Err (errors.ChunkBytes bytes)) there closed missing calm h = absurd h
 by_answer name limit source target img r (Err errors.NoColumns) there closed missing calm h = absurd h
+by_answer name limit source target img r (Err (errors.Same one other)) there closed missing calm h = absurd h
 by_answer name limit source target img r (Err (errors.FullChunks chunks most)) there closed missing calm h = absurd h
 by_answer name limit source target img r (Err (errors.FullSpace at size most)) there closed missing calm h = inr (inr refl)
 by_answer name limit source target img r (Err errors.Deep) there closed missing calm h = absurd h

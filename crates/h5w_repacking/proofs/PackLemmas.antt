@@ -8,8 +8,6 @@ use Rattle.h5w_model.specs.Tables.{Reading}
 use Rattle.h5w_model.specs.declared.refusal.ReadError.TheVariants as reads
 use Rattle.h5w_image.specs.View.{DiskState, DiskView, file}
 use Rattle.h5w_chunks.specs.Grids.{dataset_of}
-use Rattle.h5w_space.specs.declared.Full.{Full}
-use Rattle.h5w_cache.specs.declared.plan.PlanError.{PlanError}
 use Rattle.h5w_cache.specs.declared.plan.PlanError.TheVariants as plans
 use Rattle.h5w_files.specs.Images.{LeavesFiles, told_bytes}
 use Rattle.h5w_files.proofs.ClearLemmas.{any_told}
@@ -17,14 +15,14 @@ use Rattle.h5w_files.proofs.ImageLemmas.{leaves_on}
 use Rattle.h5w_text.specs.declared.error.ErrorLine.{ErrorLine}
 use Rattle.h5w_text.specs.declared.error.ErrorLine.TheVariants as errors
 use Rattle.h5w_packing.specs.Jobs.{PackingView, writes_of}
-use Rattle.h5w_packing.specs.Plans.{IsOut, IsPlanned}
+use Rattle.h5w_packing.specs.Plans.{IsPlanned}
 use Rattle.h5w_packing.proofs.WholeLemmas.{packed_whole}
 use Rattle.h5w_survey.specs.Surveys.{IsSurveyOf}
 use Rattle.h5w_survey.specs.declared.surveying.Surveyed.{Surveyed}
 use Rattle.h5w_repack.specs.Packed.{IsPacked}
 use Rattle.h5w_repack.proofs.InsideLemmas.{jobs_inside}
 use Rattle.h5w_repack.proofs.RepackLemmas.{empty_unborn, out_by, unborn}
-use Rattle.h5w_repacking.specs.Repacks.{CopiesTo, HasCopied, HasNew, HasPacked, HasUnborn, IsOfSurvey, MakesNew, OfBytes, PackedFile, PacksTo, PlansTo, RefusedBy, RepackLeaves, RepackedTo, RepacksTo, SurveyedBy, SurveysTo, WritesTo, line_of_plan, packed_text, with_new}
+use Rattle.h5w_repacking.specs.Repacks.{CopiesTo, HasCopied, HasNew, HasPacked, HasUnborn, IsOfSurvey, MakesNew, OfBytes, PackedFile, PacksTo, PlansTo, RefusedBy, RepackLeaves, RepackedTo, RepacksTo, SurveyedBy, SurveysTo, WritesTo, packed_text, with_new}
 use Rattle.h5w_repacking.proofs.NewLemmas.{new_after, new_left, new_put}
 use Rattle.h5w_repacking.proofs.PairLemmas.{get_insert-other}
 
@@ -35,10 +33,6 @@ leaves_itself : (v : DiskView) → LeavesFiles v.told v v
 leaves_itself v = record { told = refl; faults = omega arith; through = refl }
 
 -- ---- The plan
-
-pub plans_error : (s : Surveyed) (name : List ℕ) (limit : ℕ) (e : PlanError) → ((full : Full) → e ≡ plans.Full full → IsOut name (dataset_of s.grid) s.table.items limit full) → PlansTo s name limit (Err (line_of_plan e))
-plans_error s name limit (plans.Full full) h = h full refl
-plans_error s name limit plans.OutOfMemory h = tt
 
 module _ (file_name to name : List ℕ) (limit : ℕ) (ranges : Bool) (s : Surveyed) (text : List ℕ) where
   -- nothing was planned
@@ -54,6 +48,7 @@ module _ (file_name to name : List ℕ) (limit : ℕ) (ranges : Bool) (s : Surve
   writes_unplanned v errors.Layout h = absurd h
   writes_unplanned v (errors.ChunkBytes bytes) h = absurd h
   writes_unplanned v errors.NoColumns h = absurd h
+  writes_unplanned v (errors.Same one other) h = absurd h
   writes_unplanned v (errors.FullChunks chunks most) h = absurd h
   writes_unplanned v (errors.FullSpace at size most) h = (leaves_itself v, h)
   writes_unplanned v errors.Deep h = absurd h
@@ -79,6 +74,7 @@ module _ (file_name to name : List ℕ) (limit : ℕ) (ranges : Bool) (s : Surve
   writes_planned v w p (Err errors.Layout) planned h so = absurd h
   writes_planned v w p (Err (errors.ChunkBytes bytes)) planned h so = absurd h
   writes_planned v w p (Err errors.NoColumns) planned h so = absurd h
+  writes_planned v w p (Err (errors.Same one other)) planned h so = absurd h
   writes_planned v w p (Err (errors.FullChunks chunks most)) planned h so = absurd h
   writes_planned v w p (Err (errors.FullSpace at size most)) planned h so = absurd h
   writes_planned v w p (Err errors.Deep) planned h so = absurd h
@@ -104,6 +100,7 @@ module _ (file_name to name : List ℕ) (limit : ℕ) (ranges : Bool) (s : Surve
   packs_unmade v w errors.Layout h = absurd h
   packs_unmade v w (errors.ChunkBytes bytes) h = absurd h
   packs_unmade v w errors.NoColumns h = absurd h
+  packs_unmade v w (errors.Same one other) h = absurd h
   packs_unmade v w (errors.FullChunks chunks most) h = absurd h
   packs_unmade v w (errors.FullSpace at size most) h = absurd h
   packs_unmade v w errors.Deep h = absurd h
@@ -128,6 +125,7 @@ module _ (file_name to name : List ℕ) (limit : ℕ) (ranges : Bool) (s : Surve
   packs_made u v w (Err errors.Layout) new h = absurd h
   packs_made u v w (Err (errors.ChunkBytes bytes)) new h = absurd h
   packs_made u v w (Err errors.NoColumns) new h = absurd h
+  packs_made u v w (Err (errors.Same one other)) new h = absurd h
   packs_made u v w (Err (errors.FullChunks chunks most)) new h = absurd h
   packs_made u v w (Err (errors.FullSpace at size most)) new h = (new_left {u = u} {v = v} {w = w} to [] new h.0, h.1)
   packs_made u v w (Err errors.Deep) new h = absurd h
@@ -155,6 +153,7 @@ of_survey file_name name limit to (errors.WriterVersion version) k h = absurd k
 of_survey file_name name limit to errors.Layout k h = absurd k
 of_survey file_name name limit to (errors.ChunkBytes bytes) k h = absurd k
 of_survey file_name name limit to errors.NoColumns k h = absurd k
+of_survey file_name name limit to (errors.Same one other) k h = absurd k
 of_survey file_name name limit to (errors.FullChunks chunks most) k h = absurd k
 of_survey file_name name limit to (errors.FullSpace at size most) k h = absurd k
 of_survey file_name name limit to errors.Deep k h = absurd k
@@ -188,6 +187,7 @@ refused_for name limit source target (errors.WriterVersion version) h = absurd h
 refused_for name limit source target errors.Layout h = absurd h
 refused_for name limit source target (errors.ChunkBytes bytes) h = absurd h
 refused_for name limit source target errors.NoColumns h = absurd h
+refused_for name limit source target (errors.Same one other) h = absurd h
 refused_for name limit source target (errors.FullChunks chunks most) h = absurd h
 refused_for name limit source target (errors.FullSpace at size most) h = absurd h
 refused_for name limit source target errors.Deep h = absurd h
@@ -293,6 +293,7 @@ module _ (u v w : DiskView) (file_name to name : List ℕ) (limit : ℕ) (ranges
   repacks_found (Err errors.Layout) h = absurd h
   repacks_found (Err (errors.ChunkBytes bytes)) h = absurd h
   repacks_found (Err errors.NoColumns) h = absurd h
+  repacks_found (Err (errors.Same one other)) h = absurd h
   repacks_found (Err (errors.FullChunks chunks most)) h = absurd h
   repacks_found (Err (errors.FullSpace at size most)) h =
       let new : HasNew to [] u w = new_after {u = u} {v = v} {w = w} to [] surveyed.disk h.0 in

@@ -12,7 +12,7 @@ use Rattle.h5w_session.specs.Sessions.{Session, cutting_of, with_rows}
 use Rattle.h5w_session.specs.declared.refusal.AppendError.{AppendError}
 use Rattle.h5w_text.specs.Errors.{error_text}
 use Rattle.h5w_text.specs.Says.{Said, SaidUnlessMemory, whole, failed}
-use Rattle.h5w_text.specs.Scripts.{number_line_of}
+use Rattle.h5w_input.specs.Scripts.{number_line_of}
 use Rattle.h5w_text.specs.Statuses.{status_of}
 use Rattle.h5w_text.specs.Streams.{Gave, GaveSome, SinkView, SourceView}
 use Rattle.h5w_text.specs.declared.error.ErrorLine.{ErrorLine}
@@ -107,6 +107,7 @@ good a s t (Err (Error (errors.WriterVersion version))) text comes h source imag
 good a s t (Err (Error errors.Layout)) text comes h source image = absurd comes.0.2
 good a s t (Err (Error (errors.ChunkBytes bytes))) text comes h source image = absurd comes.0.2
 good a s t (Err (Error errors.NoColumns)) text comes h source image = absurd comes.0.2
+good a s t (Err (Error (errors.Same one other))) text comes h source image = absurd comes.0.2
 good a s t (Err (Error (errors.FullChunks chunks limit))) text comes h source image = let why = comes.0 in absurd (not_first a why.0 _ h why.1 why.2.1)
 good a s t (Err (Error (errors.FullSpace at size limit))) text comes h source image = inr (inl refl)
 good a s t (Err (Error errors.Deep)) text comes h source image = absurd comes.0.2
@@ -169,6 +170,7 @@ halts_told f most bs (Error (errors.WriterVersion version)) h = absurd h
 halts_told f most bs (Error errors.Layout) h = absurd h
 halts_told f most bs (Error (errors.ChunkBytes bytes)) h = absurd h
 halts_told f most bs (Error errors.NoColumns) h = absurd h
+halts_told f most bs (Error (errors.Same one other)) h = absurd h
 halts_told f most bs (Error errors.Deep) h = absurd h
 halts_told f most bs (Error (errors.Line n)) h = absurd h
 halts_told f most bs (Error (errors.Input limit)) h = absurd h
@@ -194,6 +196,7 @@ refuses_told a s t (Error (errors.WriterVersion version)) h = (h.0, h.1, halts_t
 refuses_told a s t (Error errors.Layout) h = (h.0, h.1, halts_told a.file a.most h.0 (Error errors.Layout) h.2)
 refuses_told a s t (Error (errors.ChunkBytes bytes)) h = (h.0, h.1, halts_told a.file a.most h.0 (Error (errors.ChunkBytes bytes)) h.2)
 refuses_told a s t (Error errors.NoColumns) h = (h.0, h.1, halts_told a.file a.most h.0 (Error errors.NoColumns) h.2)
+refuses_told a s t (Error (errors.Same one other)) h = (h.0, h.1, halts_told a.file a.most h.0 (Error (errors.Same one other)) h.2)
 refuses_told a s t (Error errors.Deep) h = (h.0, h.1, halts_told a.file a.most h.0 (Error errors.Deep) h.2)
 refuses_told a s t (Error errors.Disk) h = (h.0, h.1, halts_told a.file a.most h.0 (Error errors.Disk) h.2)
 refuses_told a s t (Image worn) h = (h.0, h.1, halts_told a.file a.most h.0 (Image worn) h.2)

@@ -2,7 +2,7 @@
 ghost use Rattle.std.specs.Prelude.{◌≡◌, ◌+◌, ◌≤◌, ℕ, List, ℤ, IfErr, IfOk, OnOk, None};
 ghost use Rattle.h5w_options.specs.Options.{AreAttempts, AreOptions, columns_in};
 ghost use Rattle.h5w_creation_laws.specs.CreatedFiles.{CreatedFile};
-ghost use Rattle.h5w_session.specs.Creations.{new_file};
+ghost use Rattle.h5w_form.specs.NewFiles.{new_file};
 ghost use Rattle.h5w_text.specs.Streams.{SourceView};
 ghost use Rattle.h5w_batches.specs.Inputs.{SameSource};
 ghost use Rattle.h5w_batches.specs.Reads.{ReadsBatches};

@@ -4,17 +4,18 @@ use Rattle.std.specs.Prelude.{map, nat_le, nat_lt, ◌==◌}
 use Rattle.std.proofs.lemmas.Bool.{cases_lt, cond-false, cond-true, le-leb, lt-leb, lt-ltb, le-ltb, eq-eqb, ne_eqb}
 use Rattle.std.proofs.lemmas.List.{length-take, map-append}
 use Rattle.h5w_model.specs.Lawful.{Line, adds, flushes, Rules, rows_in, shows_up_to, ends, opens, refreshes, reads, looks}
-use Rattle.h5w_model.specs.Logs.{Happening, Log, appended_in, appends, events_at, flushed_at, flushed_in, hist, plans, shown, shows}
+use Rattle.h5w_model.specs.Logs.{Happening, Log, appended_in, appends, events_at, flushed_at, flushed_in, plans, shown}
 use Rattle.h5w_model.specs.Logs as logs
 use Rattle.h5w_model.specs.declared.piece.Write.{Write}
 use Rattle.h5w_laws.proofs.LogLemmas.{div_rises, events_at_earlier, flushed_begins, take_nil}
 use Rattle.h5w_stop.specs.Outcomes.{AreRuns}
-use Rattle.h5w_stop.specs.Sweeps.{Appends, DoAll, Does, Flushes, Rest, flush_counts, found_at, line_counts, no_rows, outcome_of_run, rest_after, showing}
+use Rattle.h5w_stop.specs.Sweeps.{Appends, DoAll, Does, Flushes, Rest, flush_counts, found_at, line_counts, no_rows, outcome_of_run, rest_after}
+use Rattle.h5w_headline.specs.Showing.{showing}
 use Rattle.h5w_stop.specs.declared.outcome.Outcome.{Outcome}
 use Rattle.h5w_stop.specs.declared.outcome.Outcome.TheVariants.{NoFile, Rows}
 use Rattle.h5w_stop.specs.declared.report.Run.{Run}
 use Rattle.h5w_stop.proofs.RunLemmas.{begins_one, runs_longer, runs_same}
-use Rattle.h5w_stop.proofs.EventLemmas.{appended_showing, events_among, events_before, flushed_showing, shown_showing}
+use Rattle.h5w_headline.proofs.ShowingLemmas.{appended_showing, events_among, events_before, flushed_showing, shown_showing}
 
 rows_one : (m n : ℕ) → ◌≡◌ {A = Outcome} (Rows m) (Rows n) → m ≡ n
 rows_one m n e = cc

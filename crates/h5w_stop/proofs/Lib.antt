@@ -1,5 +1,4 @@
 pub mod RunLemmas
-pub mod EventLemmas
 pub mod CountLemmas
 pub mod FoundLemmas
 pub mod LineLemmas

@@ -2,11 +2,12 @@
 -- of a line become visible before the next.
 use Rattle.std.specs.Prelude.{◌≡◌, ℕ, ◌<◌, ◌≤◌, List, [], ◌∷◌, ◌++◌, length, nat_lt, ◌==◌, if◌then◌else◌, ℤ}
 use Rattle.h5w_model.specs.Lawful.{Line, adds, flushes, Rules, rows_in}
-use Rattle.h5w_model.specs.Logs.{Happening, Log, appends, flushed_at, plans, shows}
+use Rattle.h5w_model.specs.Logs.{Happening, Log, appends, flushed_at, plans}
 use Rattle.h5w_model.specs.declared.piece.Write.{Write}
 use Rattle.h5w_stop.specs.declared.outcome.Outcome.{Outcome}
 use Rattle.h5w_stop.specs.declared.outcome.Outcome.TheVariants.{NoFile, Rows}
 use Rattle.h5w_stop.specs.declared.report.Run.{Run}
+use Rattle.h5w_headline.specs.Showing.{showing}
 
 -- at a position of a log: no file before its first superblock is visible, and from then on the rows that are flushed there
 abbrev pub found_at : Log → ℕ → Outcome
@@ -34,11 +35,6 @@ rest_of g r [] = r
 rest_of g r (line ∷ lines) = rest_of g (rest_after g r line) lines
 
 -- ---- The log
-
--- these pieces became visible, one after another; the newest event comes first
-abbrev pub showing : List Write → List Happening → List Happening
-showing [] es = es
-showing (w ∷ ws) es = showing ws (shows w ∷ es)
 
 -- The values were appended, and all pieces that this wrote early became visible.
 pub record Appends (values : List ℤ) (before after : List Happening) : Type 0 where

@@ -1,5 +1,5 @@
 -- That the looks of a program come to an end, and that what each gives leaves what an image that stays gives.
-use Rattle.std.proofs.Common.{◌≡◌, ℕ, zero, suc, ◌<◌, ◌≤◌, max, List, [], ◌∷◌, length, Option, Some, None, subst, ap, sym, ◌∙◌, inl, inr, arith}
+use Rattle.std.proofs.Common.{◌≡◌, ℕ, zero, suc, ◌<◌, ◌≤◌, List, [], ◌∷◌, length, Option, Some, None, subst, ap, sym, ◌∙◌, inl, inr, arith}
 use Rattle.std.specs.Prelude.{IfSome}
 use Rattle.std.proofs.lemmas.Bool.{cases_lt}
 use Rattle.std.proofs.lemmas.List.Elements.{All-head, All-tail}
@@ -8,7 +8,6 @@ use Rattle.h5w_model.specs.Numbers.{AreBytes, range}
 use Rattle.h5w_model.specs.Programs.{Prog, ret, whole, counted, stored, eval, next_look, fed}
 use Rattle.h5w_image.specs.View.{GivesRange, ImageView}
 use Rattle.h5w_looks.specs.Still.{IsStill}
-use Rattle.h5w_lookup.specs.Looks.{IsWithinLook}
 use Rattle.h5w_survey.specs.Lookups.{greatest_at, greatest_to, most_looks}
 
 abbrev length_in : Option (ℕ × ℕ) → ℕ
@@ -61,7 +60,3 @@ given_there x img at len bytes still gives = subst (λ (o : Option (List ℕ)). 
 
 pub same_then : {A : Type 0} (img : List ℕ) (p : Prog A) (at len : ℕ) (bytes : List ℕ) (x : ImageView) → next_look p ≡ Some (at, len) → IsStill x img → GivesRange x at len bytes → eval img (fed bytes p) ≡ eval img p
 same_then img p at len bytes x e still gives = ap (λ b. eval img (fed b p)) (given_there x img at len bytes still gives) ∙ eval_fed img p at len e
-
--- the bytes of a look are within it
-pub within_look : (l : Option (ℕ × ℕ)) (at len n : ℕ) → l ≡ Some (at, len) → n ≤ len → IsWithinLook l n
-within_look l at len n e h = subst (λ x. IsWithinLook x n) (sym e) h

@@ -1,5 +1,5 @@
 -- How the steps of a survey compose.
-use Rattle.std.proofs.Common.{◌≡◌, ℕ, ◌+◌, ◌*◌, ◌^◌, ◌<◌, ◌≤◌, true, false, List, [], ◌∷◌, length, Option, Some, None, Result, Ok, Err, refl, sym, ap, ◌∙◌, subst, arith}
+use Rattle.std.proofs.Common.{◌≡◌, ℕ, ◌+◌, ◌*◌, ◌^◌, ◌<◌, ◌≤◌, List, [], ◌∷◌, length, Some, None, Result, Ok, Err, refl, sym, ap, ◌∙◌, subst, arith}
 use Rattle.std.specs.Prelude.{IfErr, IfOk, IsTrue}
 use Rattle.h5w_model.specs.Numbers.{range}
 use Rattle.h5w_model.specs.Programs.{eval}
@@ -10,14 +10,13 @@ use Rattle.h5w_model.specs.Findings.{AllSummary, check_all, found, overlap}
 use Rattle.h5w_model.specs.declared.root.Super.{Super}
 use Rattle.h5w_model.specs.declared.refusal.ReadError.{ReadError}
 use Rattle.h5w_laws.proofs.OneNameLemmas.{one_name}
-use Rattle.h5w_laws.proofs.ResultLemmas.{refused_ok}
 use Rattle.h5w_model.specs.Causes.{Rose}
 use Rattle.h5w_image.specs.View.{ImageView, Looked}
 use Rattle.h5w_image.proofs.ViewLemmas.{looked_twice}
 use Rattle.h5w_looks.specs.Still.{IsStill}
 use Rattle.h5w_looks.proofs.ReadLemmas.{still_on}
 use Rattle.h5w_found.specs.Errors.{find_errors}
-use Rattle.h5w_found.specs.Ran.{Ran, seen}
+use Rattle.h5w_found.specs.Ran.{Ran}
 use Rattle.h5w_found.specs.declared.error.FindError.{FindError}
 use Rattle.h5w_found.specs.declared.error.FindError.TheVariants as finds
 use Rattle.h5w_found.proofs.RanLemmas.{later, tells_along}
@@ -33,7 +32,7 @@ use Rattle.h5w_survey.specs.Steps.{Says, SurveyStep}
 use Rattle.h5w_survey.specs.declared.error.SurveyError.{SurveyError}
 use Rattle.h5w_survey.specs.declared.error.SurveyError.TheVariants.{Finding, Overlap, Flags, Failed, OutOfMemory}
 use Rattle.h5w_survey.specs.declared.surveying.Surveyed.{Surveyed}
-use Rattle.h5w_survey.specs.Surveys.{ClosedSuper, IsClosedFile, IsOutside, IsRefusedFor, IsSurveyOf, IsValid, IsWhole, ReadsAs, RefusedReading, RefusedSuper}
+use Rattle.h5w_survey.specs.Surveys.{ClosedSuper, IsOutside, IsRefusedFor, IsSurveyOf, IsValid, IsWhole, ReadsAs, RefusedReading, RefusedSuper}
 use Rattle.h5w_survey.proofs.ReadingLemmas.{behind_super}
 use Rattle.h5w_survey.proofs.WholeLemmas.{closed_read, shown_whole, valid_shown, valid_super}
 
@@ -51,20 +50,6 @@ step_stop {A = A} {B = B} P Q R S e one joined = record {
   cause = λ h. one.cause (same_failure {A = A} {B = B} e h);
   exact = λ img still. joined img still (one.exact img still);
 }
-
--- a step was answered, and another one after it
-pub step_then : {A B : Type 0} {v w x : ImageView} (P : List ℕ → A → Type 0) (Q : List ℕ → SurveyError → Type 0) (a : A) (S T : List ℕ → B → Type 0) (R U : List ℕ → SurveyError → Type 0) (r : Result B SurveyError)
-    → SurveyStep v w P Q (Ok a) → SurveyStep w x S R r → ((img : List ℕ) → IsStill v img → P img a → Says (S img) (R img) r → Says (T img) (U img) r) → SurveyStep v x T U r
-step_then {v = v} {w = w} {x = x} P Q a S T R U r one two joined = record {
-  looked = looked_twice one.looked two.looked;
-  cause = λ h. later v.faults w.faults x.faults one.looked.faults (two.cause h);
-  exact = λ img still. joined img still (one.exact img still) (two.exact img (still_on img one.looked still));
-}
-
--- by cases of what a step answered
-pub says_both : {B : Type 0} (S T : B → Type 0) (R U : SurveyError → Type 0) (r : Result B SurveyError) → ((b : B) → S b → T b) → ((e : SurveyError) → R e → U e) → Says S R r → Says T U r
-says_both S T R U (Ok b) f g h = f b h
-says_both S T R U (Err e) f g h = g e h
 
 -- a step was answered, and the next one refused
 pub step_then_stop : {A B C : Type 0} {v w x : ImageView} (P : List ℕ → A → Type 0) (Q : List ℕ → SurveyError → Type 0) (a : A) (S : List ℕ → B → Type 0) (T : List ℕ → C → Type 0) (R U : List ℕ → SurveyError → Type 0) (e : SurveyError)

@@ -1,6 +1,6 @@
 use Rattle.std.proofs.Common.{◌≡◌, ◌≤◌, ◌++◌, ◌∙◌, [], List, ℤ, Err, refl, length, drop, ap, subst, sym, rules, arith}
 use Rattle.std.proofs.lemmas.Grind.{common_steps}
-use Rattle.h5w_text.specs.LinesAhead.{LinesAhead, lines_ahead}
+use Rattle.h5w_input.specs.LinesAhead.{LinesAhead, lines_ahead}
 use Rattle.h5w_appending.specs.Appends.{columns_of}
 use Rattle.h5w_appending.specs.Appending.{TakesSingles}
 use Rattle.h5w_appending.proofs.InputLemmas.{ahead_broke, ahead_none, ahead_whole, singles_taken}

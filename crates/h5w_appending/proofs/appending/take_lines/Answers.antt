@@ -1,6 +1,6 @@
 use Rattle.std.proofs.Common.{◌≡◌, ◌+◌, ◌∷◌, ◌++◌, ◌∙◌, [], Err, Some, ap, sym, subst, rules, arith}
-use Rattle.h5w_text.specs.LinesAhead.{lines_ahead}
-use Rattle.h5w_text.specs.Scripts.{number_line_of}
+use Rattle.h5w_input.specs.LinesAhead.{lines_ahead}
+use Rattle.h5w_input.specs.Scripts.{number_line_of}
 use Rattle.h5w_batches.specs.Batches.{AreWholeRows}
 use Rattle.h5w_batches.specs.Reads.{error_of}
 use Rattle.h5w_batches.proofs.LineLemmas.{ahead_kept, first_last, first_whole, last_more, reads_all}

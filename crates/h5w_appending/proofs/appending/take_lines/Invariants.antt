@@ -1,5 +1,5 @@
 use Rattle.std.proofs.Common.{◌≡◌, ◌+◌, length}
-use Rattle.h5w_text.specs.LinesAhead.{lines_ahead}
+use Rattle.h5w_input.specs.LinesAhead.{lines_ahead}
 use Rattle.h5w_appending.proofs.InputLemmas.{Taking}
 use Rattle.h5w_appending.proofs.appending.take_lines.Given as goal
 

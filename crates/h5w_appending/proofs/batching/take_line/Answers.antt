@@ -1,5 +1,5 @@
 use Rattle.std.proofs.Common.{◌≡◌, ◌*◌, ◌∙◌, Some, length, ap, subst, sym}
-use Rattle.h5w_text.specs.Scripts.{number_line_of}
+use Rattle.h5w_input.specs.Scripts.{number_line_of}
 use Rattle.h5w_appending.specs.Appends.{columns_of}
 use Rattle.h5w_appending.proofs.batching.take_line.Goals as goal
 

@@ -1,6 +1,6 @@
 use Rattle.std.proofs.Common.{◌≡◌, ◌≤◌, Some, subst}
-use Rattle.h5w_text.specs.Scripts.{script_line_of}
-use Rattle.h5w_text.specs.Words.{line_of_script}
+use Rattle.h5w_input.specs.Scripts.{script_line_of}
+use Rattle.h5w_input.specs.Words.{line_of_script}
 use Rattle.h5w_core.specs.Worlds.{rules_of}
 use Rattle.h5w_commands.proofs.RangeLemmas.{in_range}
 use Rattle.h5w_commands.proofs.LineLemmas.{long_is_outside}

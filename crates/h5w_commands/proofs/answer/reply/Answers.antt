@@ -1,6 +1,6 @@
 use Rattle.std.proofs.Common.{subst, sym}
-use Rattle.h5w_text.specs.Words.{line_of_script}
-use Rattle.h5w_text.specs.declared.script.ScriptLine.{ScriptLine}
+use Rattle.h5w_input.specs.Words.{line_of_script}
+use Rattle.h5w_input.specs.declared.script.ScriptLine.{ScriptLine}
 use Rattle.h5w_commands.specs.Answers.{Answers}
 use Rattle.h5w_commands.proofs.answer.reply.Goals as goal
 

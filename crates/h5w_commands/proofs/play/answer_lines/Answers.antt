@@ -1,5 +1,5 @@
 use Rattle.std.proofs.Common.{◌≡◌, Result, Err, ap, subst, sym, rules}
-use Rattle.h5w_text.specs.LinesAhead.{lines_ahead}
+use Rattle.h5w_input.specs.LinesAhead.{lines_ahead}
 use Rattle.h5w_batches.specs.Inputs.{outside}
 use Rattle.h5w_commands.specs.Endings.{Runs, ending_of}
 use Rattle.h5w_commands.specs.declared.ending.Ending.{Ending}

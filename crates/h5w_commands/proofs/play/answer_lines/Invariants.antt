@@ -1,5 +1,5 @@
 use Rattle.std.proofs.Common.{◌≡◌, length, ◌+◌}
-use Rattle.h5w_text.specs.LinesAhead.{lines_ahead}
+use Rattle.h5w_input.specs.LinesAhead.{lines_ahead}
 use Rattle.h5w_commands.proofs.PlayLemmas.{GoingWhole}
 use Rattle.h5w_commands.proofs.play.answer_lines.Given as goal
 

@@ -1,6 +1,6 @@
 use Rattle.std.proofs.Common.{◌≡◌, Result, Err, ap, arith, rules, subst, sym}
 use Rattle.std.specs.Prelude.{IfErr}
-use Rattle.h5w_text.specs.LinesAhead.{lines_ahead}
+use Rattle.h5w_input.specs.LinesAhead.{lines_ahead}
 use Rattle.h5w_text.specs.declared.error.ErrorLine.{ErrorLine}
 use Rattle.h5w_batches.specs.Inputs.{outside}
 use Rattle.h5w_commands.specs.Stops.{StopRefuses}

@@ -1,6 +1,6 @@
 use Rattle.std.proofs.Common.{◌≡◌, ◌≤◌, ◌+◌, [], length}
 use Rattle.h5w_options.specs.declared.options.Options.{Options}
-use Rattle.h5w_text.specs.LinesAhead.{Stays, lines_ahead}
+use Rattle.h5w_input.specs.LinesAhead.{Stays, lines_ahead}
 use Rattle.h5w_commands.specs.Writing.{Follows}
 use Rattle.h5w_commands.proofs.TakingLemmas.{GoesWhole}
 use Rattle.h5w_commands.proofs.stop.take_lines.Given as goal

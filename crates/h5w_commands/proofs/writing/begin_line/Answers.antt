@@ -1,7 +1,7 @@
 use Rattle.std.proofs.Common.{refl, subst, sym}
 use Rattle.std.specs.Prelude.{IfErr, OnOk}
-use Rattle.h5w_text.specs.Words.{line_of_script}
-use Rattle.h5w_text.specs.declared.script.ScriptLine.{ScriptLine}
+use Rattle.h5w_input.specs.Words.{line_of_script}
+use Rattle.h5w_input.specs.declared.script.ScriptLine.{ScriptLine}
 use Rattle.h5w_commands.specs.Writing.{IsAmid, Refuses}
 use Rattle.h5w_commands.proofs.WritingLemmas.{no_writing}
 use Rattle.h5w_commands.proofs.writing.begin_line.Goals as goal

@@ -2,7 +2,7 @@ use Rattle.std.proofs.Common.{◌≡◌, Result, Err, rules, subst, sym}
 use Rattle.std.specs.Prelude.{IfErr}
 use Rattle.h5w_text.specs.declared.error.ErrorLine.{ErrorLine}
 use Rattle.h5w_commands.specs.Writing.{Refuses}
-use Rattle.h5w_text.specs.Words.{line_of_script}
+use Rattle.h5w_input.specs.Words.{line_of_script}
 use Rattle.h5w_commands.proofs.WritingLemmas.{follows_next, is_writing}
 use Rattle.h5w_commands.proofs.writing.take.Goals as goal
 

@@ -3,7 +3,7 @@ use Rattle.std.proofs.Common.{◌≡◌, ℕ, zero, suc, ◌+◌, ◌≤◌, Lis
 use Rattle.h5w_model.specs.Logs.{Happening, appended_in, events_at, flushed_in, hist, shown, shows}
 use Rattle.h5w_model.specs.declared.piece.Write.{Write}
 use Rattle.h5w_laws.proofs.LogLemmas.{events_at_earlier, events_at_now}
-use Rattle.h5w_stop.specs.Sweeps.{showing}
+use Rattle.h5w_headline.specs.Showing.{showing}
 
 pub shown_showing : (ws : List Write) (es : List Happening) → shown (showing ws es) ≡ shown es + length ws
 shown_showing [] es = omega arith
