@@ -116,8 +116,9 @@ def each_line_is_spelled():
 
 
 def each_crate_has_its_pages():
-    """Each crate has a page, a row of README and a place in ARCHITECTURE, and no other is named as one."""
-    names, rows = crates(), re.findall(r"^\| `?(h5w_\w+)`? \|", read("README.md"), re.M)
+    """Each crate has a page, one row of README (a row may be of several) and a place in ARCHITECTURE, and no other is named as one."""
+    names, cells = crates(), re.findall(r"^\| ((?:h5w_\w+(?:, )?)+) \|", read("README.md"), re.M)
+    rows = [it for cell in cells for it in cell.split(", ")]
     found = [f"crates/{it}/README.md is missing" for it in names if not os.path.exists(f"{TOP}/crates/{it}/README.md")]
     found += [f"README.md has {rows.count(it)} rows for {it}" for it in names if rows.count(it) != 1]
     found += [f"README.md has a row for {it}, which is no crate" for it in rows if it not in names]
