@@ -9,11 +9,10 @@ use Rattle.h5w_model.specs.Numbers.{range}
 use Rattle.h5w_model.specs.Images.{first_pieces, image, pieces}
 use Rattle.h5w_model.specs.declared.piece.Write.{Write}
 use Rattle.h5w_model.proofs.ImageLemmas.{length-apply, length-range}
-use Rattle.h5w_steps.proofs.MomentLemmas.{one_more}
 use Rattle.h5w_flush_laws.specs.Parts.{block_writes}
 use Rattle.h5w_array_laws.proofs.FixedLemmas.{one_piece}
 use Rattle.h5w_packing_laws.specs.Growing.{IsPiece, own_blocks}
-use Rattle.h5w_packing.specs.Jobs.{all_jobs, behind_address, block_jobs, chunk_jobs, chunks_left, first_jobs, jobs_from, piece_count, write_of, writes_of}
+use Rattle.h5w_packing.specs.Jobs.{all_jobs, behind_address, block_jobs, chunk_jobs, chunks_left, first_jobs, jobs_from, piece_count, pieces_in, write_of, writes_of}
 use Rattle.h5w_packing.specs.declared.job.Copied.{Copied}
 use Rattle.h5w_packing.specs.declared.job.Job.{Job}
 use Rattle.h5w_packing.specs.declared.job.Job.TheVariants.{Chunk}
@@ -26,41 +25,41 @@ unfolding first_jobs
 first_long zero from to at left = refl
 first_long (suc k) from to at left = ap suc (first_long k from to (at + 512) (left - 512))
 
-pub chunks_long : (len : ℕ) (cs : List Copied) → length (flat_map (chunk_jobs len) cs) ≡ length cs * piece_count len
-chunks_long len [] = omega arith
-chunks_long len (c ∷ cs) =
-    let rest : List Job = flat_map (chunk_jobs len) cs in
-    let one : length (chunk_jobs len c) ≡ piece_count len = first_long (piece_count (len - 0)) c.from c.to 0 (len - 0) ∙ ap piece_count (let e : len - 0 ≡ len = omega arith in e) in
-    omega (arith, length-append (chunk_jobs len c) rest, one, chunks_long len cs, one_more (length cs) (piece_count len))
+pub chunks_long : (cs : List Copied) → length (flat_map chunk_jobs cs) ≡ pieces_in cs
+chunks_long [] = refl
+chunks_long (c ∷ cs) =
+    let rest : List Job = flat_map chunk_jobs cs in
+    let one : length (chunk_jobs c) ≡ piece_count c.len = first_long (piece_count (c.len - 0)) c.from c.to 0 (c.len - 0) ∙ ap piece_count (let e : c.len - 0 ≡ c.len = omega arith in e) in
+    omega (arith, length-append (chunk_jobs c) rest, one, chunks_long cs)
 
 -- a chunk of which nothing is copied
-pub none_copied : (len : ℕ) (cs : List Copied) → chunks_left len 0 cs ≡ flat_map (chunk_jobs len) cs
-none_copied len [] = refl
-none_copied len (c ∷ cs) = refl
+pub none_copied : (cs : List Copied) → chunks_left 0 cs ≡ flat_map chunk_jobs cs
+none_copied [] = refl
+none_copied (c ∷ cs) = refl
 
 -- ---- The first piece and the others
 
 -- where some bytes are left
-pub more_left : (len at : ℕ) (c : Copied) → at < len
-    → jobs_from len at c ≡ Chunk (behind_address c.from at) (c.to + at) (min 512 (len - at)) ∷ first_jobs (piece_count (len - at) - 1) c.from c.to (at + 512) (len - at - 512)
+pub more_left : (at : ℕ) (c : Copied) → at < c.len
+    → jobs_from at c ≡ Chunk (behind_address c.from at) (c.to + at) (min 512 (c.len - at)) ∷ first_jobs (piece_count (c.len - at) - 1) c.from c.to (at + 512) (c.len - at - 512)
 unfolding first_jobs
-more_left len at c some =
-    let more : piece_count (len - at) ≡ suc (piece_count (len - at) - 1) = omega (arith, some) in
-    ap (λ k. first_jobs k c.from c.to at (len - at)) more
+more_left at c some =
+    let more : piece_count (c.len - at) ≡ suc (piece_count (c.len - at) - 1) = omega (arith, some) in
+    ap (λ k. first_jobs k c.from c.to at (c.len - at)) more
 
 -- the others are those of the chunk from there on
-pub rest_left : (len at : ℕ) (c : Copied) → at < len → first_jobs (piece_count (len - at) - 1) c.from c.to (at + 512) (len - at - 512) ≡ jobs_from len (at + 512) c
-rest_left len at c some =
-    let left : len - at - 512 ≡ len - (at + 512) = omega arith in
-    let count : piece_count (len - at) - 1 ≡ piece_count (len - (at + 512)) = omega (arith, some) in
+pub rest_left : (at : ℕ) (c : Copied) → at < c.len → first_jobs (piece_count (c.len - at) - 1) c.from c.to (at + 512) (c.len - at - 512) ≡ jobs_from (at + 512) c
+rest_left at c some =
+    let left : c.len - at - 512 ≡ c.len - (at + 512) = omega arith in
+    let count : piece_count (c.len - at) - 1 ≡ piece_count (c.len - (at + 512)) = omega (arith, some) in
     (λ i. first_jobs (count i) c.from c.to (at + 512) (left i))
 
 -- none are left where the last has been
-pub none_left : (len at : ℕ) (c : Copied) → len ≤ at → jobs_from len at c ≡ []
+pub none_left : (at : ℕ) (c : Copied) → c.len ≤ at → jobs_from at c ≡ []
 unfolding first_jobs
-none_left len at c done =
-    let none : piece_count (len - at) ≡ 0 = omega (arith, done) in
-    ap (λ k. first_jobs k c.from c.to at (len - at)) none
+none_left at c done =
+    let none : piece_count (c.len - at) ≡ 0 = omega (arith, done) in
+    ap (λ k. first_jobs k c.from c.to at (c.len - at)) none
 
 -- ---- What they write
 
@@ -91,9 +90,10 @@ first_writes img (suc k) from to at left few low =
     (λ i. record { at = to + at; piece = bytes i } ∷ later i)
     ∙ (λ i. record { at = to + at; piece = take 512 (range img (from + at) left) } ∷ first_pieces k (place i) (sym rest i))
 
-pub chunk_writes : (img : List ℕ) (len : ℕ) (c : Copied) → c.from + len ≤ length img → length img < 2 ^ 64 → writes_of img (chunk_jobs len c) ≡ pieces c.to (range img c.from len)
+pub chunk_writes : (img : List ℕ) (c : Copied) → c.from + c.len ≤ length img → length img < 2 ^ 64 → writes_of img (chunk_jobs c) ≡ pieces c.to (range img c.from c.len)
 unfolding pieces
-chunk_writes img len c inside low =
+chunk_writes img c inside low =
+    let len : ℕ = c.len in
     let long : length (range img c.from len) ≡ len = length-range img c.from len ∙ omega (arith, inside) in
     let start : c.to + 0 ≡ c.to = omega arith in
     let from : c.from + 0 ≡ c.from = omega arith in
@@ -103,19 +103,19 @@ chunk_writes img len c inside low =
     ∙ (λ i. first_pieces (piece_count len) (start i) (range img (from i) len))
     ∙ ap (λ n. first_pieces (piece_count n) c.to (range img c.from len)) (sym long)
 
-pub copy_writes : (img : List ℕ) (len : ℕ) (cs : List Copied) → All (StandsIn len img) cs → length img < 2 ^ 64 → writes_of img (flat_map (chunk_jobs len) cs) ≡ block_writes (chunk_blocks len img cs)
-copy_writes img len [] inside low = refl
-copy_writes img len (c ∷ cs) inside low =
-    map-append (write_of img) (chunk_jobs len c) (flat_map (chunk_jobs len) cs)
-    ∙ (λ i. chunk_writes img len c (All-head (StandsIn len img) c cs inside).inside low i ++ copy_writes img len cs (All-tail (StandsIn len img) c cs inside) low i)
+pub copy_writes : (img : List ℕ) (cs : List Copied) → All (StandsIn img) cs → length img < 2 ^ 64 → writes_of img (flat_map chunk_jobs cs) ≡ block_writes (chunk_blocks img cs)
+copy_writes img [] inside low = refl
+copy_writes img (c ∷ cs) inside low =
+    map-append (write_of img) (chunk_jobs c) (flat_map chunk_jobs cs)
+    ∙ (λ i. chunk_writes img c (All-head (StandsIn img) c cs inside).inside low i ++ copy_writes img cs (All-tail (StandsIn img) c cs inside) low i)
 
 pub own_writes : (img : List ℕ) (ws : List Write) → writes_of img (block_jobs ws) ≡ ws
 own_writes img [] = refl
 own_writes img (w ∷ ws) = ap (λ (l : List Write). w ∷ l) (own_writes img ws)
 
-pub all_writes : (img : List ℕ) (len : ℕ) (cs : List Copied) (ws : List Write) → All (StandsIn len img) cs → length img < 2 ^ 64 → writes_of img (all_jobs len cs ws) ≡ block_writes (chunk_blocks len img cs) ++ ws
-all_writes img len cs ws inside low =
-    map-append (write_of img) (flat_map (chunk_jobs len) cs) (block_jobs ws) ∙ (λ i. copy_writes img len cs inside low i ++ own_writes img ws i)
+pub all_writes : (img : List ℕ) (cs : List Copied) (ws : List Write) → All (StandsIn img) cs → length img < 2 ^ 64 → writes_of img (all_jobs cs ws) ≡ block_writes (chunk_blocks img cs) ++ ws
+all_writes img cs ws inside low =
+    map-append (write_of img) (flat_map chunk_jobs cs) (block_jobs ws) ∙ (λ i. copy_writes img cs inside low i ++ own_writes img ws i)
 
 -- ---- Pieces of a piece's size are blocks of their own
 

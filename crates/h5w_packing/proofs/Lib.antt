@@ -7,10 +7,12 @@ pub mod CellLemmas
 pub mod TileLemmas
 pub mod EndLemmas
 pub mod PlainLemmas
+pub mod BlockLemmas
 pub mod WholeLemmas
 pub mod FrontLemmas
 pub mod FitLemmas
-pub mod PlanLemmas
+pub mod SetLemmas
+pub mod SoFarLemmas
 pub mod PreparedLemmas
 pub mod TiledLemmas
 pub mod ResultLemmas

@@ -136,13 +136,13 @@ module _ (d : Described) (table : List ℕ) (s : Space) (u : IndexView) (n : ℕ
 
   -- one that is there
   pub halfway_there : (t : Space) (next : IndexView) (to : ℕ) (others : List Copied) → s.limit ≤ 2 ^ 40 → n < length table → slice_index_or table n 0 ≢ undefined → IsSound next → TakesAll d next → IsOfKind d next → to ≡ places.end
-      → t ≡ record places { end = places.end + chunk_bytes d } → places.end + chunk_bytes d ≤ places.limit → IsNamedNext v (index_key d n, to) next → others ≡ chunks ++ record { from = slice_index_or table n 0; to = to } ∷ []
+      → t ≡ record places { end = places.end + chunk_bytes d } → places.end + chunk_bytes d ≤ places.limit → IsNamedNext v (index_key d n, to) next → others ≡ chunks ++ record { from = slice_index_or table n 0; to = to; len = chunk_bytes d } ∷ []
       → IsHalfway d table s u (n + 1) t next others
   halfway_there t next to others small inside there sound takes kind is place fits name put =
       let a : ℕ = slice_index_or table n 0 in
       let rest : List ℕ = drop (n + 1) table in
       let end : t.end ≡ places.end + bytes = ap (λ (x : Space). x.end) place in
-      let one : Copied = record { from = a; to = places.end } in
+      let one : Copied = record { from = a; to = places.end; len = bytes } in
       let defined : places.end ≢ undefined = λ e. absurd (omega (arith, e, h.within, small)) in
       let here : packed_table bytes places.end (drop n table) ≡ places.end ∷ packed_table bytes t.end rest =
       ap (packed_table bytes places.end) (more inside) ∙ table_there bytes places.end a rest there ∙ ap (λ m. places.end ∷ packed_table bytes m rest) (sym end) in
@@ -150,7 +150,7 @@ module _ (d : Described) (table : List ℕ) (s : Space) (u : IndexView) (n : ℕ
       ap (named_from d n) here ∙ named_there d n places.end (packed_table bytes t.end rest) defined in
       let copies : copied_from bytes places.end (drop n table) ≡ one ∷ copied_from bytes t.end rest =
       ap (copied_from bytes places.end) (more inside) ∙ copied_there bytes places.end a rest there ∙ ap (λ m. one ∷ copied_from bytes m rest) (sym end) in
-      let all : others ≡ chunks ++ one ∷ [] = put ∙ ap (λ m. chunks ++ record { from = a; to = m } ∷ []) is in
+      let all : others ≡ chunks ++ one ∷ [] = put ∙ ap (λ m. chunks ++ record { from = a; to = m; len = bytes } ∷ []) is in
       let named_next : IsNamedNext v (index_key d n, places.end) next = subst (λ m. IsNamedNext v (index_key d n, m) next) is name in
       record {
         sound = sound;
@@ -169,7 +169,7 @@ module _ (d : Described) (table : List ℕ) (s : Space) (u : IndexView) (n : ℕ
   halfway_full full inside there out =
       let a : ℕ = slice_index_or table n 0 in
       let rest : List ℕ = drop (n + 1) table in
-      let one : Copied = record { from = a; to = places.end } in
+      let one : Copied = record { from = a; to = places.end; len = bytes } in
       let copies : copied_from bytes places.end (drop n table) ≡ one ∷ copied_from bytes (places.end + bytes) rest = ap (copied_from bytes places.end) (more inside) ∙ copied_there bytes places.end a rest there in
       let long : length (copied_from bytes s.end table) ≡ length chunks + suc (length (copied_from bytes (places.end + bytes) rest)) =
       ap length (sym h.chunks_are) ∙ length-append chunks (copied_from bytes places.end (drop n table)) ∙ ap (λ (cs : List Copied). length chunks + length cs) copies in

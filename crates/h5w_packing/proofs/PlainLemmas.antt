@@ -39,19 +39,19 @@ tops_plain Tree at block = refl
 
 -- those of copied chunks
 pub chunks_plain : (bytes : ℕ) (img : List ℕ) (at : ℕ) (table : List ℕ) → ((n : ℕ) → get_or table n undefined ≢ undefined → get_or table n undefined + bytes ≤ length img) → chunks_end bytes at table < undefined
-    → block_ranges (chunk_blocks bytes img (copied_from bytes at table)) ≡ plain (chunks_in bytes (packed_table bytes at table))
+    → block_ranges (chunk_blocks img (copied_from bytes at table)) ≡ plain (chunks_in bytes (packed_table bytes at table))
 chunks_plain bytes img at [] h low = refl
 chunks_plain bytes img at (a ∷ rest) h low = go (eqb_tells a undefined) (λ place high. chunks_plain bytes img place rest (λ n. h (suc n)) high)
   where
-    go : Tells a → ((place : ℕ) → chunks_end bytes place rest < undefined → block_ranges (chunk_blocks bytes img (copied_from bytes place rest)) ≡ plain (chunks_in bytes (packed_table bytes place rest))) → block_ranges (chunk_blocks bytes img (copied_from bytes at (a ∷ rest))) ≡ plain (chunks_in bytes (packed_table bytes at (a ∷ rest)))
+    go : Tells a → ((place : ℕ) → chunks_end bytes place rest < undefined → block_ranges (chunk_blocks img (copied_from bytes place rest)) ≡ plain (chunks_in bytes (packed_table bytes place rest))) → block_ranges (chunk_blocks img (copied_from bytes at (a ∷ rest))) ≡ plain (chunks_in bytes (packed_table bytes at (a ∷ rest)))
     go (inl e) later =
-        ap (λ (cs : List Copied). block_ranges (chunk_blocks bytes img cs)) (copied_absent bytes at a rest e.1)
+        ap (λ (cs : List Copied). block_ranges (chunk_blocks img cs)) (copied_absent bytes at a rest e.1)
         ∙ later at (omega (arith, low, end_absent bytes at a rest e.1))
         ∙ sym (ap (λ (t : List ℕ). plain (chunks_in bytes t)) (table_absent bytes at a rest e.1) ∙ ap plain (chunks_undefined bytes undefined (packed_table bytes at rest) refl))
     go (inr n) later =
         let high : chunks_end bytes (at + bytes) rest < undefined = omega (arith, low, end_there bytes at a rest n.1) in
         let here : at ≢ undefined = λ e. absurd (omega (arith, e, high, end_rises bytes (at + bytes) rest)) in
         let size : length (range img a bytes) ≡ bytes = length-range img a bytes ∙ omega (arith, h 0 n.1) in
-        ap (λ (cs : List Copied). block_ranges (chunk_blocks bytes img cs)) (copied_there bytes at a rest n.1)
+        ap (λ (cs : List Copied). block_ranges (chunk_blocks img cs)) (copied_there bytes at a rest n.1)
         ∙ (λ i. block_at at (size i) ∷ later (at + bytes) high i)
         ∙ sym (ap (λ (t : List ℕ). plain (chunks_in bytes t)) (table_there bytes at a rest n.1) ∙ ap plain (chunks_some bytes at (packed_table bytes (at + bytes) rest) here))

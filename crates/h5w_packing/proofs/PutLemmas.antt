@@ -5,7 +5,6 @@ use Rattle.std.proofs.lemmas.Bool.{cond-false, cond-true}
 use Rattle.std.proofs.lemmas.List.{drop_all, drop_more}
 use Rattle.h5w_model.specs.Tiles.{TileFields}
 use Rattle.h5w_model.specs.declared.cell.IndexKind.{IndexKind}
-use Rattle.h5w_model.specs.declared.piece.Write.{Write}
 use Rattle.h5w_cache.specs.declared.moves.Move.{Move}
 use Rattle.h5w_packing.specs.Plans.{block_kind, chunk_tiles, move_tiles, tile}
 use Rattle.h5w_packing.specs.declared.job.Copied.{Copied}
@@ -14,16 +13,16 @@ use Rattle.h5w_packing.specs.declared.job.Copied.{Copied}
 pub one_put : {X : Type 0} (old : List X) (x : X) (rest : List X) → (old ++ x ∷ []) ++ rest ≡ old ++ x ∷ rest
 one_put old x rest = append_assoc old (x ∷ []) rest
 
-pub chunk_put : (len : ℕ) (cs : List Copied) (i : ℕ) (c : Copied) (old new all : List TileFields) → i < length cs → old ++ chunk_tiles len (drop i cs) ≡ all → new ≡ old ++ tile (slice_index_or cs i c).to len 8 ∷ []
-    → new ++ chunk_tiles len (drop (i + 1) cs) ≡ all
-chunk_put len cs i c old new all inside so is =
-    ap (λ (ts : List TileFields). ts ++ chunk_tiles len (drop (i + 1) cs)) is
-    ∙ one_put old (tile (slice_index_or cs i c).to len 8) (chunk_tiles len (drop (i + 1) cs))
-    ∙ sym (ap (λ (l : List Copied). old ++ chunk_tiles len l) (drop_more cs i c inside))
+pub chunk_put : (cs : List Copied) (i : ℕ) (c : Copied) (old new all : List TileFields) → i < length cs → old ++ chunk_tiles (drop i cs) ≡ all → new ≡ old ++ tile (slice_index_or cs i c).to (slice_index_or cs i c).len 8 ∷ []
+    → new ++ chunk_tiles (drop (i + 1) cs) ≡ all
+chunk_put cs i c old new all inside so is =
+    ap (λ (ts : List TileFields). ts ++ chunk_tiles (drop (i + 1) cs)) is
+    ∙ one_put old (tile (slice_index_or cs i c).to (slice_index_or cs i c).len 8) (chunk_tiles (drop (i + 1) cs))
+    ∙ sym (ap (λ (l : List Copied). old ++ chunk_tiles l) (drop_more cs i c inside))
     ∙ so
 
-pub chunks_put : (len : ℕ) (cs : List Copied) (i : ℕ) (new all : List TileFields) → length cs ≤ i → new ++ chunk_tiles len (drop i cs) ≡ all → new ≡ all
-chunks_put len cs i new all past so = sym (append-nil new) ∙ sym (ap (λ (l : List Copied). new ++ chunk_tiles len l) (drop_all i cs past)) ∙ so
+pub chunks_put : (cs : List Copied) (i : ℕ) (new all : List TileFields) → length cs ≤ i → new ++ chunk_tiles (drop i cs) ≡ all → new ≡ all
+chunks_put cs i new all past so = sym (append-nil new) ∙ sym (ap (λ (l : List Copied). new ++ chunk_tiles l) (drop_all i cs past)) ∙ so
 
 pub move_put : (k : IndexKind) (ms : List Move) (i : ℕ) (m : Move) (old new all : List TileFields) → i < length ms → old ++ move_tiles k (drop i ms) ≡ all → (slice_index_or ms i m).in_place ≡ false
     → new ≡ old ++ tile (slice_index_or ms i m).new (slice_index_or ms i m).len (block_kind k (slice_index_or ms i m).number) ∷ [] → new ++ move_tiles k (drop (i + 1) ms) ≡ all
@@ -46,17 +45,3 @@ move_passed k ms i m old new all inside so stays is =
 
 pub moves_put : (k : IndexKind) (ms : List Move) (i : ℕ) (new all : List TileFields) → length ms ≤ i → new ++ move_tiles k (drop i ms) ≡ all → new ≡ all
 moves_put k ms i new all past so = sym (append-nil new) ∙ sym (ap (λ (l : List Move). new ++ move_tiles k l) (drop_all i ms past)) ∙ so
-
-pub write_put : (ws : List Write) (i : ℕ) (w : Write) (old new all : List Write) → i < length ws → old ++ drop i ws ≡ all → new ≡ old ++ slice_index_or ws i w ∷ [] → new ++ drop (i + 1) ws ≡ all
-write_put ws i w old new all inside so is =
-    ap (λ (l : List Write). l ++ drop (i + 1) ws) is ∙ one_put old (slice_index_or ws i w) (drop (i + 1) ws) ∙ sym (ap (λ (l : List Write). old ++ l) (drop_more ws i w inside)) ∙ so
-
-pub writes_put : (ws : List Write) (i : ℕ) (new all : List Write) → length ws ≤ i → new ++ drop i ws ≡ all → new ≡ all
-writes_put ws i new all past so = sym (append-nil new) ∙ sym (ap (λ (l : List Write). new ++ l) (drop_all i ws past)) ∙ so
-
-pub three_put : (old a b c : List Write) (x y z : Write) → a ≡ old ++ x ∷ [] → b ≡ a ++ y ∷ [] → c ≡ b ++ z ∷ [] → c ≡ old ++ x ∷ y ∷ z ∷ []
-three_put old a b c x y z first second third =
-    third
-    ∙ ap (λ (l : List Write). l ++ z ∷ []) (second ∙ ap (λ (l : List Write). l ++ y ∷ []) first)
-    ∙ ap (λ (l : List Write). l ++ z ∷ []) (append_assoc old (x ∷ []) (y ∷ []))
-    ∙ append_assoc old (x ∷ y ∷ []) (z ∷ [])

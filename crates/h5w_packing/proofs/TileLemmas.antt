@@ -1,13 +1,12 @@
 -- The ranges of a packed file, as tiles and as a check tells them.
-use Rattle.std.proofs.Common.{◌≡◌, ◌≢◌, ◌⊎◌, ℕ, ◌+◌, ◌<◌, true, false, List, [], ◌∷◌, ◌++◌, refl, sym, ◌∙◌, ap, inl, inr, arith, sum_by}
+use Rattle.std.proofs.Common.{◌≡◌, ◌≢◌, ◌⊎◌, ℕ, ◌+◌, ◌<◌, true, false, List, [], ◌∷◌, ◌++◌, refl, sym, ◌∙◌, ap, inl, inr, arith}
 use Rattle.std.specs.Prelude.{◌==◌, ◌%◌, if◌then◌else◌, map}
 use Rattle.std.proofs.lemmas.Bool.{cases_Bool, cond-false, cond-true}
 use Rattle.std.proofs.lemmas.Bool.Decides.{eqb_tells}
 use Rattle.std.proofs.lemmas.List.{map-append}
-use Rattle.std.proofs.lemmas.List.Sums.{sum_by-cons}
 use Rattle.h5w_model.specs.Numbers.{undefined}
 use Rattle.h5w_model.specs.Datasets.{Described}
-use Rattle.h5w_model.specs.Findings.{Used, the_superblock}
+use Rattle.h5w_model.specs.Findings.{Used}
 use Rattle.h5w_model.specs.Tiles.{TileFields, TiledFrom}
 use Rattle.h5w_model.specs.declared.cell.IndexKind.{IndexKind}
 use Rattle.h5w_model.specs.declared.cell.IndexKind.TheVariants.{Array, Tree}
@@ -36,19 +35,19 @@ index_used : (k : IndexKind) (at block : ℕ) → map used (index_tiles k at blo
 index_used Array at block = refl
 index_used Tree at block = refl
 
-chunks_used : (bytes at : ℕ) (table : List ℕ) → chunks_end bytes at table < undefined → 0 < bytes → map used (chunk_tiles bytes (copied_from bytes at table)) ≡ chunks_in bytes (packed_table bytes at table)
+chunks_used : (bytes at : ℕ) (table : List ℕ) → chunks_end bytes at table < undefined → 0 < bytes → map used (chunk_tiles (copied_from bytes at table)) ≡ chunks_in bytes (packed_table bytes at table)
 chunks_used bytes at [] low some = refl
 chunks_used bytes at (a ∷ rest) low some = go (eqb_tells a undefined) (λ place high. chunks_used bytes place rest high some)
   where
-    go : Tells a → ((place : ℕ) → chunks_end bytes place rest < undefined → map used (chunk_tiles bytes (copied_from bytes place rest)) ≡ chunks_in bytes (packed_table bytes place rest)) → map used (chunk_tiles bytes (copied_from bytes at (a ∷ rest))) ≡ chunks_in bytes (packed_table bytes at (a ∷ rest))
+    go : Tells a → ((place : ℕ) → chunks_end bytes place rest < undefined → map used (chunk_tiles (copied_from bytes place rest)) ≡ chunks_in bytes (packed_table bytes place rest)) → map used (chunk_tiles (copied_from bytes at (a ∷ rest))) ≡ chunks_in bytes (packed_table bytes at (a ∷ rest))
     go (inl e) later =
-        ap (λ (cs : List Copied). map used (chunk_tiles bytes cs)) (copied_absent bytes at a rest e.1)
+        ap (λ (cs : List Copied). map used (chunk_tiles cs)) (copied_absent bytes at a rest e.1)
         ∙ later at (omega (arith, low, end_absent bytes at a rest e.1))
         ∙ sym (ap (chunks_in bytes) (table_absent bytes at a rest e.1) ∙ chunks_undefined bytes undefined (packed_table bytes at rest) refl)
     go (inr n) later =
         let high : chunks_end bytes (at + bytes) rest < undefined = omega (arith, low, end_there bytes at a rest n.1) in
         let here : at ≢ undefined = λ e. absurd (omega (arith, e, high, end_rises bytes (at + bytes) rest)) in
-        ap (λ (cs : List Copied). map used (chunk_tiles bytes cs)) (copied_there bytes at a rest n.1)
+        ap (λ (cs : List Copied). map used (chunk_tiles cs)) (copied_there bytes at a rest n.1)
         ∙ ap (λ (us : List Used). chunk_at at bytes ∷ us) (later (at + bytes) high)
         ∙ sym (ap (chunks_in bytes) (table_there bytes at a rest n.1) ∙ chunks_some bytes at (packed_table bytes (at + bytes) rest) here)
 
@@ -71,21 +70,12 @@ moves_used k (m ∷ ms) = go (cases_Bool m.in_place) (moves_used k ms)
     go (inl e) later = ap (map used) (cond-true m.in_place _ _ e) ∙ later ∙ sym (fresh_in_place m ms e)
     go (inr e) later = ap (map used) (cond-false m.in_place _ _ e) ∙ (λ i. one i ∷ later i) ∙ sym (fresh_copy m ms e)
 
--- all of them
-pub tiles_used : (root header bytes first : ℕ) (d : Described) (place block : ℕ) (table : List ℕ) (ms : List Move) → chunks_end bytes first table < undefined → 0 < bytes
-    → map (used_of chunk_kind) (front_tiles root header d place block ++ (chunk_tiles bytes (copied_from bytes first table) ++ move_tiles d.layout.index ms))
-    ≡ the_superblock ∷ block_at 48 root ∷ block_at place header ∷ (tops_of d.layout.index d.layout.address block ++ (chunks_in bytes (packed_table bytes first table) ++ fresh ms))
-tiles_used root header bytes first d place block table ms low some =
-    let k : IndexKind = d.layout.index in
-    let tops : List TileFields = index_tiles k d.layout.address block in
-    let chunks : List TileFields = chunk_tiles bytes (copied_from bytes first table) in
-    let rest : map used (tops ++ (chunks ++ move_tiles k ms)) ≡ tops_of k d.layout.address block ++ (chunks_in bytes (packed_table bytes first table) ++ fresh ms) =
-    map-append used tops (chunks ++ move_tiles k ms)
-    ∙ (λ i. index_used k d.layout.address block i ++ (map-append used chunks (move_tiles k ms) ∙ (λ j. chunks_used bytes first table low some j ++ moves_used k ms j)) i) in
-    ap (λ (us : List Used). the_superblock ∷ block_at 48 root ∷ block_at place header ∷ us) rest
+-- ---- Of a dataset
 
--- ---- Their lengths
+pub front_used : (header : ℕ) (d : Described) (place block : ℕ) → map (used_of chunk_kind) (front_tiles header d place block) ≡ block_at place header ∷ tops_of d.layout.index d.layout.address block
+front_used header d place block = ap (λ (us : List Used). block_at place header ∷ us) (index_used d.layout.index d.layout.address block)
 
-pub ranges_sum : (from end : ℕ) (us : List Used) → RangesFrom from us end → from + sum_by (λ (u : Used). u.len) us ≡ end
-ranges_sum from end [] h = omega (arith, h)
-ranges_sum from end (u ∷ us) h = omega (arith, sum_by-cons (λ (v : Used). v.len) u us, ranges_sum (from + u.len) end us h.1)
+pub behind_used : (k : IndexKind) (bytes first : ℕ) (table : List ℕ) (ms : List Move) → chunks_end bytes first table < undefined → 0 < bytes
+    → map (used_of chunk_kind) (chunk_tiles (copied_from bytes first table) ++ move_tiles k ms) ≡ chunks_in bytes (packed_table bytes first table) ++ fresh ms
+behind_used k bytes first table ms low some =
+    map-append used (chunk_tiles (copied_from bytes first table)) (move_tiles k ms) ∙ (λ j. chunks_used bytes first table low some j ++ moves_used k ms j)

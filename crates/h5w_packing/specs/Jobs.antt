@@ -23,22 +23,28 @@ first_jobs (suc k) from to at left = Chunk (behind_address from at) (to + at) (m
 abbrev pub piece_count : ℕ → ℕ
 piece_count n = (n + 511) / 512
 
--- the pieces of a chunk of so many bytes, from a byte of it on
-abbrev pub jobs_from : ℕ → ℕ → Copied → List Job
-jobs_from len at c = first_jobs (piece_count (len - at)) c.from c.to at (len - at)
+-- the pieces of a chunk, from a byte of it on
+abbrev pub jobs_from : ℕ → Copied → List Job
+jobs_from at c = first_jobs (piece_count (c.len - at)) c.from c.to at (c.len - at)
 
 -- all of them
-abbrev pub chunk_jobs : ℕ → Copied → List Job
-chunk_jobs len c = jobs_from len 0 c
+abbrev pub chunk_jobs : Copied → List Job
+chunk_jobs c = jobs_from 0 c
 
 -- those of chunks of which the first is copied up to a byte
-abbrev pub chunks_left : ℕ → ℕ → List Copied → List Job
-chunks_left len at [] = []
-chunks_left len at (c ∷ cs) = jobs_from len at c ++ flat_map (chunk_jobs len) cs
+abbrev pub chunks_left : ℕ → List Copied → List Job
+chunks_left at [] = []
+chunks_left at (c ∷ cs) = jobs_from at c ++ flat_map chunk_jobs cs
 
--- its new place ends low
-abbrev pub EndsLow : ℕ → Copied → Type 0
-EndsLow len c = c.to + len < 2 ^ 63
+-- a byte of the first, where there is one
+abbrev pub IsByteOf : ℕ → List Copied → Type 0
+IsByteOf at [] = Unit {0}
+IsByteOf at (c ∷ cs) = at < c.len
+
+-- it has some byte, and its new place ends low
+pub record EndsLow (c : Copied) : Type 0 where
+  pub some : 0 < c.len
+  pub low : c.to + c.len < 2 ^ 63
 
 -- ---- Of all
 
@@ -46,8 +52,13 @@ abbrev pub block_jobs : List Write → List Job
 block_jobs ws = map Block ws
 
 -- chunks, one behind the other, and then blocks
-abbrev pub all_jobs : ℕ → List Copied → List Write → List Job
-all_jobs len cs ws = flat_map (chunk_jobs len) cs ++ block_jobs ws
+abbrev pub all_jobs : List Copied → List Write → List Job
+all_jobs cs ws = flat_map chunk_jobs cs ++ block_jobs ws
+
+-- how many pieces chunks are
+abbrev pub pieces_in : List Copied → ℕ
+pieces_in [] = 0
+pieces_in (c ∷ cs) = piece_count c.len + pieces_in cs
 
 -- what contracts see of a planned file: what is left to do, its ranges, and where it ends
 pub record PackingView : Type 0 where

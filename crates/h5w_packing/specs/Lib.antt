@@ -1,4 +1,5 @@
 pub mod Tiles
 pub mod Jobs
 pub mod Plans
+pub mod SoFar
 pub mod Whole

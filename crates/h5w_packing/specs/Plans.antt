@@ -1,10 +1,12 @@
 -- Where all of a packed file stands, and what is written there.
-use Rattle.std.specs.Prelude.{◌≡◌, ◌⊎◌, ◌↔◌, IsTrue, Bool, ℕ, ◌+◌, ◌*◌, ◌%◌, ◌<◌, ◌≤◌, ◌^◌, List, [], ◌∷◌, ◌++◌, length, ◌==◌, if◌then◌else◌}
+use Rattle.std.specs.Prelude.{◌≡◌, ◌⊎◌, ◌↔◌, IsTrue, Bool, ℕ, ◌+◌, ◌*◌, ◌%◌, ◌<◌, ◌≤◌, ◌^◌, List, [], ◌∷◌, ◌++◌, flat_map, length, map, ◌==◌, if◌then◌else◌}
+use Rattle.std.specs.List.{AllByRecursion}
 use Rattle.h5w_model.specs.Numbers.{undefined}
 use Rattle.h5w_model.specs.Arrays.{eahd_len, eaib_len}
 use Rattle.h5w_model.specs.Trees.{bthd_len}
 use Rattle.h5w_model.specs.Datasets.{Described}
-use Rattle.h5w_model.specs.Headers.{header_bytes}
+use Rattle.h5w_model.specs.Images.{pieces}
+use Rattle.h5w_model.specs.Messages.{fill_bytes, index_bytes, int_type_bytes, layout_width, shape_bytes}
 use Rattle.h5w_model.specs.Superblock.{super_bytes}
 use Rattle.h5w_model.specs.Tables.{bands, index_key, keys_across, needed}
 use Rattle.h5w_model.specs.Tiles.{TileFields}
@@ -21,11 +23,14 @@ use Rattle.h5w_index.specs.Depths.{AreWithin}
 use Rattle.h5w_index.specs.Views.{IndexView, IsClean, IsSound, TakesKey, kind_of}
 use Rattle.h5w_index.specs.Steps.{HasNoPlace, IsPlan}
 use Rattle.h5w_creation.specs.Made.{IsNewIndex}
-use Rattle.h5w_creation.specs.Headers.{links_to}
+use Rattle.h5w_creation_laws.specs.CreatedFiles.{index_len}
+use Rattle.h5w_several_creation_laws.specs.Links.{linking_header_len}
+use Rattle.h5w_chunks.specs.Grids.{dataset_of}
 use Rattle.h5w_packing_laws.specs.Growing.{AreNamed, named_from}
-use Rattle.h5w_packing_laws.specs.Packing.{AreInPlace, IsLaidOut, IsPacking, packed_super}
+use Rattle.h5w_packing_laws.specs.Packing.{ArePacked, BehindsFrom, FrontsFrom, IsLaidOut, IsPackedSet, PackedSet, packed_super, root_bytes}
 use Rattle.h5w_packing.specs.Jobs.{PackingView, all_jobs}
 use Rattle.h5w_packing.specs.declared.job.Copied.{Copied}
+use Rattle.h5w_packing.specs.declared.source.Source.{Source}
 
 -- the same dataset, whose index stands elsewhere
 pub record SameDataset (d e : Described) : Type 0 where
@@ -44,7 +49,7 @@ packed_table bytes at (a ∷ rest) = if a == undefined then undefined ∷ packed
 -- each of those that are there, with its old place and its new one
 abbrev pub copied_from : ℕ → ℕ → List ℕ → List Copied
 copied_from bytes at [] = []
-copied_from bytes at (a ∷ rest) = if a == undefined then copied_from bytes at rest else record { from = a; to = at } ∷ copied_from bytes (at + bytes) rest
+copied_from bytes at (a ∷ rest) = if a == undefined then copied_from bytes at rest else record { from = a; to = at; len = bytes } ∷ copied_from bytes (at + bytes) rest
 
 -- where they end
 abbrev pub chunks_end : ℕ → ℕ → List ℕ → ℕ
@@ -61,16 +66,17 @@ abbrev pub index_tiles : IndexKind → ℕ → ℕ → List TileFields
 index_tiles Array at block = tile at eahd_len 3 ∷ tile block eaib_len 4 ∷ []
 index_tiles Tree at block = tile at bthd_len 3 ∷ []
 
--- those of the blocks before the chunks, with headers of so many bytes
-abbrev pub front_tiles : ℕ → ℕ → Described → ℕ → ℕ → List TileFields
-front_tiles root header d place block = tile 0 48 0 ∷ tile 48 root 1 ∷ tile place header 2 ∷ index_tiles d.layout.index d.layout.address block
+-- those of superblock and root header, which has so many bytes
+abbrev pub head_tiles : ℕ → List TileFields
+head_tiles root = tile 0 48 0 ∷ tile 48 root 1 ∷ []
 
-abbrev pub root_size : List ℕ → ℕ → ℕ
-root_size name place = length (header_bytes (links_to name place))
+-- those of a dataset header of so many bytes, and of the index's blocks in place
+abbrev pub front_tiles : ℕ → Described → ℕ → ℕ → List TileFields
+front_tiles header d place block = tile place header 2 ∷ index_tiles d.layout.index d.layout.address block
 
-abbrev pub chunk_tiles : ℕ → List Copied → List TileFields
-chunk_tiles bytes [] = []
-chunk_tiles bytes (c ∷ cs) = tile c.to bytes 8 ∷ chunk_tiles bytes cs
+abbrev pub chunk_tiles : List Copied → List TileFields
+chunk_tiles [] = []
+chunk_tiles (c ∷ cs) = tile c.to c.len 8 ∷ chunk_tiles cs
 
 -- a block of an array is a secondary block or a data block, by its number; one of a tree is a node
 abbrev pub block_kind : IndexKind → ℕ → ℕ
@@ -81,43 +87,104 @@ abbrev pub move_tiles : IndexKind → List Move → List TileFields
 move_tiles kind [] = []
 move_tiles kind (m ∷ ms) = if m.in_place then move_tiles kind ms else tile m.new m.len (block_kind kind m.number) ∷ move_tiles kind ms
 
--- ---- What is written
-
--- the headers, by their bytes, and last the superblock
-abbrev pub head_writes : List ℕ → List ℕ → ℕ → ℕ → List Write
-head_writes root header place end =
-    record { at = place; piece = header } ∷ record { at = 48; piece = root } ∷ record { at = 0; piece = super_bytes (packed_super end) } ∷ []
-
 -- the places before the first chunk's
 abbrev pub first_space : ℕ → ℕ → Space
 first_space first limit = record { end = first; limit = limit; free = []; retired = []; spare = 0 }
 
--- All of the plan: d is the dataset of the source, and table has the addresses of its chunks there.
-pub record IsPlanned (name : List ℕ) (d : Described) (table : List ℕ) (limit : ℕ) (p : PackingView) : Type 0 where
-  -- the dataset in the new file, where its header and its index block stand, and where the blocks in place end
+-- ---- A dataset
+
+-- what is wanted in the new file: a dataset of the source, by its name there, with the addresses of its chunks by their numbers
+pub record Wanted : Type 0 where
+  pub name : List ℕ
   pub dataset : Described
-  pub place : ℕ
-  pub block : ℕ
-  pub first : ℕ
-  pub same : SameDataset d dataset
-  pub laid : IsLaidOut name dataset place block first
-  -- the plan of the index
-  pub moves : List Move
-  pub copies : List (ℕ × List ℕ)
-  pub fixed : List Write
-  pub index : IndexView
-  pub last : Space
-  pub packing : IsPacking dataset block (packed_table (chunk_bytes d) first table) (first_space first limit) moves copies fixed index last
-  pub in_place : List Write
-  pub which : AreInPlace packing.full dataset.layout.index dataset.layout.address block fixed in_place
+  pub table : List ℕ
+
+abbrev pub wanted_of : Source → Wanted
+wanted_of s = record { name = s.name; dataset = dataset_of s.grid; table = s.table.items }
+
+abbrev pub wanted_names : List Wanted → List (List ℕ)
+wanted_names ws = map (λ (w : Wanted). w.name) ws
+
+-- how many bytes its header has, whatever the address in it is, and with it the index's blocks in place
+abbrev pub header_size : Described → ℕ
+header_size d =
+    27 + (length (shape_bytes d.shape) + (length (int_type_bytes d.int_type) + (length (fill_bytes d.fill)
+    + (5 + (d.shape.rank + 1) * layout_width d.layout.chunk_rows d.layout.chunk_cols d.int_type.size + length (index_bytes d.layout.index) + 8))))
+
+abbrev pub front_size : Described → ℕ
+front_size d = header_size d + index_len d.layout.index
+
+abbrev pub fronts_size : List Wanted → ℕ
+fronts_size [] = 0
+fronts_size (w ∷ ws) = front_size w.dataset + fronts_size ws
+
+-- where the first dataset header stands, and where all blocks in place end
+abbrev pub first_place : List Wanted → ℕ
+first_place ws = 48 + linking_header_len (wanted_names ws)
+
+abbrev pub fronts_end : List Wanted → ℕ
+fronts_end ws = first_place ws + fronts_size ws
+
+-- A dataset with all that is planned of it.
+pub record PlannedSet : Type 0 where
+  pub source : Wanted
+  pub set : PackedSet
+
+abbrev pub sets_of : List PlannedSet → List PackedSet
+sets_of xs = map (λ (x : PlannedSet). x.set) xs
+
+abbrev pub sources_of : List PlannedSet → List Wanted
+sources_of xs = map (λ (x : PlannedSet). x.source) xs
+
+-- It is the source's dataset under its name, its chunks stand in the order of their numbers, and all of it ends by the limit.
+pub record IsPlannedSet (limit : ℕ) (x : PlannedSet) : Type 0 where
+  pub named : x.set.name ≡ x.source.name
+  pub same : SameDataset x.source.dataset x.set.dataset
+  pub packed : IsPackedSet x.set
+  pub first : x.set.first ≡ first_space x.set.first.end limit
+  pub table : x.set.table ≡ packed_table (chunk_bytes x.source.dataset) x.set.first.end x.source.table
+  -- where its chunks end
+  pub placed : packed.packing.s.end ≡ chunks_end (chunk_bytes x.source.dataset) x.set.first.end x.source.table
+  pub within : x.set.last.end ≤ limit
+
+-- its chunks, from their old places to the new ones
+abbrev pub set_chunks : PlannedSet → List Copied
+set_chunks x = copied_from (chunk_bytes x.source.dataset) x.set.first.end x.source.table
+
+-- the ranges of its header and its index's blocks in place, and those of its chunks and of the other blocks
+abbrev pub set_front_tiles : PlannedSet → List TileFields
+set_front_tiles x = front_tiles (length (spelled_header x.set.dataset)) x.set.dataset x.set.place x.set.block
+
+abbrev pub set_tiles : PlannedSet → List TileFields
+set_tiles x = chunk_tiles (set_chunks x) ++ move_tiles x.set.dataset.layout.index x.set.moves
+
+-- ---- The whole file
+
+-- the dataset header, as it is written
+abbrev pub header_write : PlannedSet → Write
+header_write x = record { at = x.set.place; piece = spelled_header x.set.dataset }
+
+-- the dataset headers, the root header, and last the superblock
+abbrev pub head_writes : List PlannedSet → ℕ → List Write
+head_writes xs end = map header_write xs ++ (pieces 48 (root_bytes (sets_of xs)) ++ record { at = 0; piece = super_bytes (packed_super end) } ∷ [])
+
+-- all that is written behind the chunks: the blocks of each index at new places, those in place, and the headers
+abbrev pub planned_writes : List PlannedSet → ℕ → List Write
+planned_writes xs end =
+    flat_map (λ (x : PlannedSet). block_writes x.set.copies) xs ++ (flat_map (λ (x : PlannedSet). x.set.tops) xs ++ head_writes xs end)
+
+-- All of the plan for these datasets.
+pub record IsPlanned (ws : List Wanted) (limit : ℕ) (p : PackingView) : Type 0 where
+  pub sets : List PlannedSet
+  pub are : sources_of sets ≡ ws
+  pub each : AllByRecursion (IsPlannedSet limit) sets
+  pub end : ℕ
+  pub packed : ArePacked (sets_of sets) (fronts_end ws) end
   -- all that is copied and written
-  pub jobs : p.left ≡ all_jobs (chunk_bytes d) (copied_from (chunk_bytes d) first table) (block_writes copies ++ (in_place ++ head_writes (header_bytes (links_to name place)) (spelled_header dataset) place last.end))
-  pub ranges : p.ranges
-      ≡ front_tiles (root_size name place) (length (spelled_header dataset)) dataset place block ++ (chunk_tiles (chunk_bytes d) (copied_from (chunk_bytes d) first table) ++ move_tiles dataset.layout.index moves)
-  pub end : p.end ≡ last.end
-  -- where the chunks end
-  pub placed : packing.s.end ≡ chunks_end (chunk_bytes d) first table
-  pub within : last.end ≤ limit
+  pub jobs : p.left ≡ all_jobs (flat_map set_chunks sets) (planned_writes sets end)
+  pub ranges : p.ranges ≡ head_tiles (linking_header_len (wanted_names ws)) ++ (flat_map set_front_tiles sets ++ flat_map set_tiles sets)
+  pub ends : p.end ≡ end
+  pub within : end ≤ limit
   pub small : limit ≤ 2 ^ 40
 
 -- ---- Why there is no plan
@@ -142,15 +209,28 @@ pub record IsBlockOut (d : Described) (block at limit : ℕ) (table : List ℕ) 
   pub names : AreNamed new (named_from d 0 (packed_table (chunk_bytes d) at table)) named
   pub refused : HasNoPlace named (first_space (chunks_end (chunk_bytes d) at table) limit) full
 
--- The first range by its place that would end past the limit, of a file of this dataset.
-pub record IsOut (name : List ℕ) (d : Described) (table : List ℕ) (limit : ℕ) (full : Full) : Type 0 where
+-- A dataset whose header stands at a place, and whose first chunk would stand at another: the first of its ranges behind the blocks in place
+-- that would end past the limit.
+pub record IsSetOut (w : Wanted) (limit place at : ℕ) (full : Full) : Type 0 where
   pub dataset : Described
-  pub place : ℕ
   pub block : ℕ
-  pub first : ℕ
-  pub same : SameDataset d dataset
-  pub laid : IsLaidOut name dataset place block first
-  pub which : IsChunkOut (chunk_bytes d) first limit table full ⊎ IsBlockOut dataset block first limit table full
+  pub top : ℕ
+  pub same : SameDataset w.dataset dataset
+  pub laid : IsLaidOut dataset place block top
+  pub which : IsChunkOut (chunk_bytes w.dataset) at limit w.table full ⊎ IsBlockOut dataset block at limit w.table full
+
+-- The first range by its place that would end past the limit, of a file of these datasets: those before it have their places.
+pub record IsOut (ws : List Wanted) (limit : ℕ) (full : Full) : Type 0 where
+  pub before : List PlannedSet
+  pub next : Wanted
+  pub behind : List Wanted
+  pub are : sources_of before ++ next ∷ behind ≡ ws
+  pub each : AllByRecursion (IsPlannedSet limit) before
+  pub place : ℕ
+  pub at : ℕ
+  pub fronts : FrontsFrom (first_place ws) (sets_of before) place
+  pub behinds : BehindsFrom (fronts_end ws) (sets_of before) at
+  pub out : IsSetOut next limit place at full
 
 -- how many lines of keys the needed chunks have
 abbrev pub key_lines : Described → ℕ

@@ -1,30 +1,26 @@
-//! The blocks before the chunks of a packed file: where they stand, and the bytes of the headers.
-ghost use Rattle.std.specs.Prelude.{◌≡◌, ◌+◌, ◌-◌, ◌^◌, ◌<◌, ◌≤◌, length, IfOk};
-ghost use Rattle.h5w_model.specs.Headers.{header_bytes};
+//! The blocks in place of a dataset in a packed file: where they stand, and the bytes of its header.
+ghost use Rattle.std.specs.Prelude.{◌≡◌, ◌+◌, ◌^◌, ◌<◌, ◌≤◌, length, IfOk};
 ghost use Rattle.h5w_model.specs.Tables.{format_limits, limit_of, needed};
 ghost use Rattle.h5w_chunks.specs.Grids.{IsGrid, dataset_of};
 ghost use Rattle.h5w_header_laws.specs.Spelled.{IsSpellable, spelled_header};
-ghost use Rattle.h5w_creation.specs.Headers.{links_to};
-ghost use Rattle.h5w_creation_laws.specs.CreatedFiles.{index_len};
 ghost use Rattle.h5w_packing_laws.specs.Packing.{IsLaidOut};
-ghost use Rattle.h5w_packing.specs.Plans.{SameDataset};
+ghost use Rattle.h5w_packing.specs.Plans.{SameDataset, front_size};
 
 use h5w_bytes::UNDEFINED;
 use h5w_chunks::Grid;
-use h5w_creation::{ARRAY_LEN, ROOT_PLACE, dataset_header, index_len, root_header};
+use h5w_creation::{ARRAY_LEN, dataset_header, index_len};
 use h5w_layout::Layout;
 use h5w_model::{OutOfMemory, Piece};
 use h5w_types::Shape;
 use std::alloc::Global;
 
-/// The headers of a packed file, and where its blocks in place stand.
+/// The header of a dataset in a packed file, and where its blocks in place stand.
 #[derive(Drop)]
 pub struct Front {
     /// The dataset, with the address of its index in this file.
     pub grid: Grid,
-    pub root: Piece,
     pub header: Piece,
-    /// Where the dataset header stands.
+    /// Where the header stands.
     pub place: u64,
     /// Where the index block of an array stands.
     pub block: u64,
@@ -80,28 +76,37 @@ fn spelled(alloc: Global, grid: &Grid) -> Result<Piece, OutOfMemory>
     dataset_header(alloc, grid)
 }
 
-/// The headers of a file that packs this dataset under this name. They are as long whatever the addresses in them are.
-pub fn front_of(alloc: Global, name: &[u8], grid: &Grid) -> Result<Front, OutOfMemory>
+/// How many bytes the dataset header and the index's blocks in place take. They are as long whatever the addresses in them are.
+pub fn front_len(alloc: Global, grid: &Grid) -> Result<u64, OutOfMemory>
+    requires { IsGrid grid.now }
+    ensures exact { IfOk result (λ n. n ≡ front_size (dataset_of grid.now)) }
+    ensures short { IfOk result (λ n. n ≤ 515) }
+{
+    let header = spelled(alloc, &with_index(grid, UNDEFINED))?;
+    Ok(header.len() as u64 + index_len(grid.layout.index))
+}
+
+/// The blocks in place of this dataset, whose header stands at `place`.
+pub fn front_at(alloc: Global, grid: &Grid, place: u64) -> Result<Front, OutOfMemory>
     requires grid { IsGrid grid.now }
-    requires name { length name.now ≤ 255 }
     requires few { needed (dataset_of grid.now) ≤ limit_of format_limits (dataset_of grid.now).layout.index }
+    requires behind { 48 ≤ place }
+    requires small { place + front_size (dataset_of grid.now) ≤ 8192 }
     ensures grid { IfOk result (λ f. IsGrid f.grid) }
     ensures same { IfOk result (λ f. SameDataset (dataset_of grid.now) (dataset_of f.grid)) }
-    ensures laid { IfOk result (λ f. IsLaidOut name.now (dataset_of f.grid) f.place f.block f.end) }
-    ensures root { IfOk result (λ f. f.root ≡ header_bytes (links_to name.now f.place)) }
+    ensures laid { IfOk result (λ f. IsLaidOut (dataset_of f.grid) f.place f.block f.end) }
+    ensures place { IfOk result (λ f. f.place ≡ place) }
+    ensures end { IfOk result (λ f. f.end ≡ place + front_size (dataset_of grid.now)) }
     ensures header { IfOk result (λ f. f.header ≡ spelled_header (dataset_of f.grid)) }
 {
-    let root = root_header(alloc, name, UNDEFINED)?;
-    let place = ROOT_PLACE + root.len() as u64;
-    let header = spelled(alloc, &with_index(grid, UNDEFINED))?;
-    let index = place + header.len() as u64;
+    let end = place + front_len(alloc, grid)?;
+    let index = end - index_len(grid.layout.index);
     let grid = with_index(grid, index);
     Ok(Front {
         grid,
-        root: root_header(alloc, name, place)?,
         header: spelled(alloc, &grid)?,
         place,
         block: index + ARRAY_LEN,
-        end: index + index_len(grid.layout.index),
+        end,
     })
 }

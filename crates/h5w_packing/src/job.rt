@@ -5,6 +5,8 @@ use h5w_model::Write;
 pub struct Copied {
     pub from: u64,
     pub to: u64,
+    /// How many bytes it has.
+    pub len: u64,
 }
 
 /// One piece of the new file, of at most 512 bytes.

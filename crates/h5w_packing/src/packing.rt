@@ -1,7 +1,7 @@
 //! A file that is planned, and is made piece by piece. Like a session it holds no image.
-ghost use Rattle.std.specs.Prelude.{◌≡◌, ◌+◌, ◌*◌, ◌/◌, ◌<◌, ◌≤◌, ◌^◌, length, drop, IfOk, IfSome};
+ghost use Rattle.std.specs.Prelude.{◌≡◌, ◌+◌, length, drop, IfOk, IfSome};
 ghost use Rattle.std.specs.List.{All};
-ghost use Rattle.h5w_packing.specs.Jobs.{EndsLow, all_jobs, first_job};
+ghost use Rattle.h5w_packing.specs.Jobs.{EndsLow, all_jobs, first_job, pieces_in};
 
 use crate::job::{Copied, Job};
 use crate::ranges::Ranges;
@@ -11,10 +11,8 @@ use std::marker::Model;
 /// A file that is planned: what is left to do until it is there, its ranges, and where it ends.
 #[derive(Drop)]
 pub struct Packing {
-    /// The chunks that have an address in the source, in rising order of their keys.
+    /// The chunks that have an address in the source: of one dataset after another, in rising order of their keys.
     chunks: Vec<Copied>,
-    /// How many bytes each of them has.
-    len: u64,
     /// The pieces that are written behind the chunks.
     writes: Vec<Write>,
     ranges: Ranges,
@@ -30,53 +28,52 @@ pub struct Packing {
 }
 
 impl Model for Packing {
-    ghost use Rattle.std.specs.Prelude.{◌≡◌, ◌<◌, ◌^◌, ◌++◌, length, drop};
+    ghost use Rattle.std.specs.Prelude.{◌≡◌, ◌++◌, length, drop};
     ghost use Rattle.std.specs.List.{All};
-    ghost use Rattle.h5w_packing.specs.Jobs.{EndsLow, PackingView, block_jobs, chunks_left};
+    ghost use Rattle.h5w_packing.specs.Jobs.{EndsLow, IsByteOf, PackingView, block_jobs, chunks_left};
 
     ghost Value = { PackingView };
 
     ghost view = { λ p. record {
-      left = chunks_left p.len p.at (drop p.copied p.chunks.items) ++ block_jobs (drop p.written p.writes.items);
+      left = chunks_left p.at (drop p.copied p.chunks.items) ++ block_jobs (drop p.written p.writes.items);
       ranges = p.ranges;
       end = p.end;
     } };
 
-    ghost invariant = { λ p. (p.at < p.len) × (p.len < 2 ^ 63) × All (EndsLow p.len) p.chunks.items
-        × (p.left ≡ length (chunks_left p.len p.at (drop p.copied p.chunks.items) ++ block_jobs (drop p.written p.writes.items))) };
+    ghost invariant = { λ p. IsByteOf p.at (drop p.copied p.chunks.items) × All EndsLow p.chunks.items
+        × (p.left ≡ length (chunks_left p.at (drop p.copied p.chunks.items) ++ block_jobs (drop p.written p.writes.items))) };
 }
 
-/// How many pieces so many chunks of `len` bytes each and so many pieces of blocks are. None where no number of 64 bits is so high, and so
-/// no memory holds so many.
-fn pieces_of(chunks: usize, len: u64, writes: usize) -> Option<u64>
-    requires few { chunks ≤ 1000000 }
-    requires small { len < 2 ^ 32 }
-    ensures sum { IfSome result (λ n. n ≡ chunks * ((len + 511) / 512) + writes) }
+/// How many pieces these chunks and so many pieces of blocks are. None where no number of 64 bits is so high.
+fn pieces_of(chunks: &[Copied], writes: usize) -> Option<u64>
+    ensures { IfSome result (λ n. n ≡ pieces_in chunks.now + writes) }
 {
-    (chunks as u64 * len.div_ceil(512)).checked_add(writes as u64)
+    let mut pieces = writes as u64;
+    for chunk in chunks {
+        match pieces.checked_add(chunk.len.div_ceil(PIECE as u64)) {
+            Some(sum) => pieces = sum,
+            None => return None,
+        }
+    }
+    Some(pieces)
 }
 
 impl Packing {
-    /// A file of which all is planned and nothing is done: chunks of `len` bytes each, and the pieces behind them.
+    /// A file of which all is planned and nothing is done: the chunks, and the pieces behind them.
     pub(crate) fn new(
         chunks: Vec<Copied>,
-        len: u64,
         writes: Vec<Write>,
         ranges: Ranges,
         end: u64,
     ) -> Result<Packing, OutOfMemory>
-        requires some { 0 < len }
-        requires small { len < 2 ^ 32 }
-        requires few { length chunks.items ≤ 1000000 }
-        requires low { All (EndsLow len) chunks.items }
-        ensures left { IfOk result (λ p. p.left ≡ all_jobs len chunks.items writes.items) }
+        requires low { All EndsLow chunks.items }
+        ensures left { IfOk result (λ p. p.left ≡ all_jobs chunks.items writes.items) }
         ensures ranges { IfOk result (λ p. p.ranges ≡ ranges) }
         ensures end { IfOk result (λ p. p.end ≡ end) }
     {
-        match pieces_of(chunks.len(), len, writes.len()) {
+        match pieces_of(&chunks, writes.len()) {
             Some(left) => Ok(Packing {
                 chunks,
-                len,
                 writes,
                 ranges,
                 end,
@@ -98,7 +95,7 @@ impl Packing {
             return Some(Job::Chunk {
                 from: chunk.from.saturating_add(self.at),
                 to: chunk.to + self.at,
-                len: (self.len - self.at).min(PIECE as u64) as usize,
+                len: (chunk.len - self.at).min(PIECE as u64) as usize,
             });
         }
         if self.written < self.writes.len() {
@@ -119,7 +116,7 @@ impl Packing {
     {
         if self.copied < self.chunks.len() {
             self.left -= 1;
-            if self.len - self.at > PIECE as u64 {
+            if self.chunks[self.copied].len - self.at > PIECE as u64 {
                 self.at += PIECE as u64;
             } else {
                 self.at = 0;

@@ -1,247 +1,144 @@
 //! Where all of a packed file stands. Nothing is looked at here, and nothing is written.
-ghost use Rattle.std.specs.Prelude.{◌≡◌, ◌≢◌, ℕ, ◌+◌, ◌<◌, ◌≤◌, ◌^◌, List, [], ◌∷◌, ◌++◌, length, if◌then◌else◌, Err, IfOk, IsOk, OnOk};
-ghost use Rattle.std.specs.List.{All};
-ghost use Rattle.h5w_model.specs.Findings.{chunk_bytes};
-ghost use Rattle.h5w_model.specs.Tables.{chunks_across, format_limits, index_key, limit_of, needed};
-ghost use Rattle.h5w_space.specs.Space.{Space};
+ghost use Rattle.std.specs.Prelude.{◌≡◌, ◌+◌, ◌*◌, ◌<◌, ◌≤◌, ◌^◌, length, map, nat_le, if◌then◌else◌, Err, IfOk, IsOk, OnOk};
+ghost use Rattle.std.specs.List.{All, sum_by};
+ghost use Rattle.h5w_model.specs.Headers.{msgs_bytes};
 ghost use Rattle.h5w_space.specs.declared.Full.{Full};
-ghost use Rattle.h5w_chunks.specs.Grids.{IsGrid, dataset_of};
-ghost use Rattle.h5w_index.specs.Held.{view_of};
-ghost use Rattle.h5w_index.specs.Views.{IsSound};
-ghost use Rattle.h5w_packing_laws.specs.Growing.{AreNamed, IsNamedNext, IsTight, named_from};
-ghost use Rattle.h5w_packing.specs.Jobs.{EndsLow, IsPrepared, all_jobs};
-ghost use Rattle.h5w_packing.specs.Plans.{IsChunkOut, IsNextOut, IsOfKind, IsOut, IsPlanned, IsSettled, IsUnsettled, TakesAll, chunk_tiles, chunks_end, copied_from, front_tiles, head_writes, move_tiles, packed_table};
+ghost use Rattle.h5w_packing.specs.Jobs.{EndsLow, IsPrepared};
+ghost use Rattle.h5w_packing.specs.Plans.{IsOut, IsPlanned, first_place, fronts_end, fronts_size, wanted_names, wanted_of};
+ghost use Rattle.h5w_packing.specs.SoFar.{AreAll, AreSources, IsBegun, IsPlanOf};
 
-use crate::front::{Front, front_of};
-use crate::job::Copied;
+use crate::adding::put_set;
+use crate::front::front_len;
+use crate::gathering::{Planning, finished};
 use crate::packing::Packing;
-use crate::tiling::ranges_of;
-use crate::writing::{planned_writes, put_headers};
-use h5w_bytes::UNDEFINED;
-use h5w_cache::{Plan, PlanError};
-use h5w_chunks::{Grid, IndexKind};
-use h5w_creation::new_index;
-use h5w_index::{Index, InsertError, Key};
-use h5w_model::{OutOfMemory, Write};
-use h5w_space::Places;
+use crate::ranges::{Ranges, kind};
+use crate::source::Source;
+use h5w_cache::PlanError;
+use h5w_creation::{ROOT_PLACE, root_start};
+use h5w_model::OutOfMemory;
 use std::alloc::Global;
 
-/// The key by which the index has the chunk of a number.
-fn key_of(grid: &Grid, number: u64) -> Key
-    requires grid { IsGrid grid.now }
-    requires some { 0 < chunks_across (dataset_of grid.now) }
-    ensures { result ≡ index_key (dataset_of grid.now) number }
+/// How many bytes a link has beside the name.
+const LINK: usize = 15;
+
+/// How many bytes link info and group info have.
+const INFOS: usize = 28;
+
+/// How many bytes the links of these datasets take.
+fn links_len(sources: &[Source]) -> usize
+    requires { sum_by (λ (s : Source). 15 + length s.name) sources.now < 2 ^ 16 }
+    ensures exact { result ≡ sum_by (λ (s : Source). 15 + length s.name) sources.now }
+    ensures bound { result < 2 ^ 16 }
 {
-    match grid.layout.index {
-        IndexKind::Array => Key { i: number, j: 0 },
-        IndexKind::Tree => Key {
-            i: number / grid.across(),
-            j: number % grid.across(),
-        },
+    sources
+        .iter()
+        .map(|source| LINK + source.name.as_slice().len())
+        .sum()
+}
+
+/// How many bytes the root header has beside messages of this size.
+fn head_of(size: usize) -> usize
+    ensures exact { result ≡ (if nat_le size 255 then 11 else 12) }
+    ensures bound { result ≤ 12 }
+{
+    if size <= 255 { 11 } else { 12 }
+}
+
+/// Where the first dataset header stands, behind the root header of these datasets.
+fn first_place(sources: &[Source]) -> u64
+    requires { AreSources sources.now }
+    ensures exact { result ≡ first_place (map wanted_of sources.now) }
+    ensures bound { result ≤ 88 + 270 * length sources.now }
+{
+    let size = INFOS + links_len(sources);
+    ROOT_PLACE + (head_of(size) + size) as u64
+}
+
+/// How many bytes the blocks in place of all datasets take.
+fn fronts_len(alloc: Global, sources: &[Source]) -> Result<u64, OutOfMemory>
+    requires { AreSources sources.now }
+    ensures exact { IfOk result (λ n. n ≡ fronts_size (map wanted_of sources.now)) }
+    ensures bound { IfOk result (λ n. n ≤ 515 * length sources.now) }
+{
+    let mut len = 0;
+    for source in sources {
+        len += front_len(alloc, &source.grid)?;
     }
+    Ok(len)
 }
 
-/// Gives the chunk of a number the next place of the file, by which the index names it from then on.
-fn place_chunk(
-    grid: &Grid,
-    number: u64,
-    places: &mut Places,
-    index: &mut Index,
-) -> Result<u64, PlanError>
-    requires grid { IsGrid grid.now }
-    requires inside { number < needed (dataset_of grid.now) }
-    requires few { needed (dataset_of grid.now) ≤ limit_of format_limits (dataset_of grid.now).layout.index }
-    requires sound { IsSound (view_of index.old) }
-    requires takes { TakesAll (dataset_of grid.now) (view_of index.old) }
-    requires kind { IsOfKind (dataset_of grid.now) (view_of index.old) }
-    requires tight { IsTight places.old }
-    requires limit { places.old.limit ≤ 2 ^ 40 }
-    ensures sound { IsSound (view_of index.new) }
-    ensures takes { OnOk result (TakesAll (dataset_of grid.now) (view_of index.new)) }
-    ensures kind { OnOk result (IsOfKind (dataset_of grid.now) (view_of index.new)) }
-    ensures place { IfOk result (λ a. a ≡ places.old.end) }
-    ensures places { OnOk result (places.new ≡ record places.old { end = places.old.end + chunk_bytes (dataset_of grid.now) }) }
-    ensures fits { OnOk result (places.old.end + chunk_bytes (dataset_of grid.now) ≤ places.old.limit) }
-    ensures named { IfOk result (λ a. IsNamedNext (view_of index.old) (index_key (dataset_of grid.now) number, a) (view_of index.new)) }
-    ensures full { (full : Full) → result ≡ Err (PlanError.Full full) → IsNextOut (chunk_bytes (dataset_of grid.now)) places.old full }
+/// A file of which no dataset is planned yet: the first of its headers stands at `place`, and all blocks in place end at `top`.
+fn begun(alloc: Global, place: u64, top: u64) -> Result<Planning, OutOfMemory>
+    requires { 48 ≤ place }
+    ensures { IfOk result (IsBegun place top) }
 {
-    let key = key_of(grid, number);
-    let address = places.take(grid.chunk_len()).map_err(PlanError::Full)?;
-    match index.hold(key) {
-        Ok(()) => {}
-        Err(InsertError::Deep) => unreachable!(),
-        Err(InsertError::OutOfMemory) => return Err(PlanError::OutOfMemory),
-    }
-    index.set(key, address);
-    Ok(address)
-}
-
-/// Puts a chunk behind others.
-fn keep(chunks: &mut Vec<Copied>, chunk: Copied) -> Result<(), OutOfMemory>
-    ensures { OnOk result (chunks.new.items ≡ chunks.old.items ++ chunk ∷ []) }
-{
-    chunks.push(chunk)?;
-    Ok(())
-}
-
-/// Gives each chunk that has an address in the source a place, one behind the other. `table` has these addresses by the chunks' numbers.
-fn place_chunks(
-    alloc: Global,
-    grid: &Grid,
-    table: &[u64],
-    places: &mut Places,
-    index: &mut Index,
-) -> Result<Vec<Copied>, PlanError>
-    requires grid { IsGrid grid.now }
-    requires listed { length table.now ≡ needed (dataset_of grid.now) }
-    requires few { needed (dataset_of grid.now) ≤ limit_of format_limits (dataset_of grid.now).layout.index }
-    requires sound { IsSound (view_of index.old) }
-    requires takes { TakesAll (dataset_of grid.now) (view_of index.old) }
-    requires kind { IsOfKind (dataset_of grid.now) (view_of index.old) }
-    requires tight { IsTight places.old }
-    requires limit { places.old.limit ≤ 2 ^ 40 }
-    requires within { places.old.end ≤ places.old.limit }
-    ensures sound { IsSound (view_of index.new) }
-    ensures chunks { IfOk result (λ v. v.items ≡ copied_from (chunk_bytes (dataset_of grid.now)) places.old.end table.now) }
-    ensures places { OnOk result (places.new ≡ record places.old { end = chunks_end (chunk_bytes (dataset_of grid.now)) places.old.end table.now }) }
-    ensures within { OnOk result (places.new.end ≤ places.old.limit) }
-    ensures named { OnOk result (AreNamed (view_of index.old) (named_from (dataset_of grid.now) 0 (packed_table (chunk_bytes (dataset_of grid.now)) places.old.end table.now)) (view_of index.new)) }
-    ensures full { (full : Full) → result ≡ Err (PlanError.Full full) → IsChunkOut (chunk_bytes (dataset_of grid.now)) places.old.end places.old.limit table.now full }
-{
-    let mut chunks = Vec::new(alloc);
-    for (number, from) in table.iter().enumerate() {
-        if *from != UNDEFINED {
-            let to = place_chunk(grid, number as u64, places, index)?;
-            keep(&mut chunks, Copied { from: *from, to })?;
-        }
-    }
-    Ok(chunks)
-}
-
-/// The chunks of an index that have their places, and the plan of its blocks.
-#[derive(Drop)]
-struct Settled {
-    chunks: Vec<Copied>,
-    plan: Plan,
-    /// Whether no chunk was named: then the plan writes nothing.
-    clean: bool,
-}
-
-/// Gives the chunks and then the blocks of an index without chunks their places, which all are taken at the end.
-fn settle(
-    alloc: Global,
-    grid: &Grid,
-    table: &[u64],
-    places: &mut Places,
-    index: &mut Index,
-) -> Result<Settled, PlanError>
-    requires grid { IsGrid grid.now }
-    requires listed { length table.now ≡ needed (dataset_of grid.now) }
-    requires few { needed (dataset_of grid.now) ≤ limit_of format_limits (dataset_of grid.now).layout.index }
-    requires sound { IsSound (view_of index.old) }
-    requires takes { TakesAll (dataset_of grid.now) (view_of index.old) }
-    requires kind { IsOfKind (dataset_of grid.now) (view_of index.old) }
-    requires tight { IsTight places.old }
-    requires limit { places.old.limit ≤ 2 ^ 40 }
-    requires within { places.old.end ≤ places.old.limit }
-    ensures settled { IfOk result (λ x. IsSettled (dataset_of grid.now) table.now places.old (view_of index.old) x.chunks.items x.plan.moves.items x.plan.copies.items x.plan.in_place.items x.clean (view_of index.new) places.new) }
-    ensures full { (full : Full) → result ≡ Err (PlanError.Full full) → IsUnsettled (dataset_of grid.now) table.now places.old (view_of index.old) full }
-{
-    let chunks = place_chunks(alloc, grid, table, places, index)?;
-    let clean = index.is_clean();
-    let begun = index.begin(places)?;
-    let plan = index.finish(begun);
-    Ok(Settled {
-        chunks,
-        plan,
-        clean,
+    let mut fronts = Ranges::new(alloc);
+    fronts.push(0, ROOT_PLACE, kind::SUPERBLOCK)?;
+    fronts.push(ROOT_PLACE, place - ROOT_PLACE, kind::ROOT_HEADER)?;
+    Ok(Planning {
+        place,
+        end: top,
+        links: root_start(alloc)?,
+        chunks: Vec::new(alloc),
+        copies: Vec::new(alloc),
+        tops: Vec::new(alloc),
+        headers: Vec::new(alloc),
+        fronts,
+        behinds: Ranges::new(alloc),
     })
 }
 
-/// All of the file, once its chunks and the index have their places.
-fn packed(
+/// Plans all datasets, one after another.
+fn put_sets(
     alloc: Global,
-    front: &Front,
-    settled: Settled,
-    unchanged: &[Write],
-    end: u64,
-) -> Result<Packing, OutOfMemory>
-    requires grid { IsGrid front.now.grid }
-    requires few { length settled.chunks.items ≤ 1000000 }
-    requires low { All (EndsLow (chunk_bytes (dataset_of front.now.grid))) settled.chunks.items }
-    ensures left { IfOk result (λ p. p.left ≡ all_jobs (chunk_bytes (dataset_of front.now.grid)) settled.chunks.items
-        ((settled.plan.copies.items ++ (if settled.clean then unchanged.now else settled.plan.in_place.items)) ++ head_writes front.now.root front.now.header front.now.place end)) }
-    ensures ranges { IfOk result (λ p. p.ranges ≡ front_tiles (length front.now.root) (length front.now.header) (dataset_of front.now.grid) front.now.place front.now.block
-        ++ (chunk_tiles (chunk_bytes (dataset_of front.now.grid)) settled.chunks.items ++ move_tiles (dataset_of front.now.grid).layout.index settled.plan.moves.items)) }
-    ensures end { IfOk result (λ p. p.end ≡ end) }
-{
-    let Settled {
-        chunks,
-        plan,
-        clean,
-    } = settled;
-    let ranges = ranges_of(alloc, front, &chunks, &plan.moves)?;
-    let mut writes = planned_writes(plan, clean, unchanged)?;
-    put_headers(front, end, &mut writes)?;
-    Packing::new(chunks, front.grid.chunk_len(), writes, ranges, end)
-}
-
-/// The plan of the file, once the places are settled, or why they are not.
-fn finished(
-    alloc: Global,
-    front: &Front,
-    settled: Result<Settled, PlanError>,
-    unchanged: &[Write],
-    end: u64,
-) -> Result<Packing, PlanError>
-    requires grid { IsGrid front.now.grid }
-    requires few { IfOk settled (λ x. length x.chunks.items ≤ 1000000) }
-    requires low { IfOk settled (λ x. All (EndsLow (chunk_bytes (dataset_of front.now.grid))) x.chunks.items) }
-    ensures left { IfOk result (λ p. IfOk settled (λ x. p.left ≡ all_jobs (chunk_bytes (dataset_of front.now.grid)) x.chunks.items
-        ((x.plan.copies.items ++ (if x.clean then unchanged.now else x.plan.in_place.items)) ++ head_writes front.now.root front.now.header front.now.place end))) }
-    ensures ranges { IfOk result (λ p. IfOk settled (λ x. p.ranges ≡ front_tiles (length front.now.root) (length front.now.header) (dataset_of front.now.grid) front.now.place front.now.block
-        ++ (chunk_tiles (chunk_bytes (dataset_of front.now.grid)) x.chunks.items ++ move_tiles (dataset_of front.now.grid).layout.index x.plan.moves.items))) }
-    ensures end { IfOk result (λ p. p.end ≡ end) }
-    ensures ok { OnOk result (IsOk settled) }
-    ensures full { (full : Full) → result ≡ Err (PlanError.Full full) → settled ≡ Err (PlanError.Full full) }
-{
-    let settled = settled?;
-    Ok(packed(alloc, front, settled, unchanged, end)?)
-}
-
-/// Plans a file of a dataset under this name, which ends by `limit`. `table` has the addresses of its chunks in the source, by their
-/// numbers. The places begin behind the blocks in place; chunks come first, in rising order of their keys, and then the other blocks of the
-/// index, each behind those that it names.
-pub fn plan(
-    alloc: Global,
-    grid: &Grid,
-    table: &[u64],
-    name: &[u8],
+    sources: &[Source],
     limit: u64,
-) -> Result<Packing, PlanError>
-    requires grid { IsGrid grid.now }
-    requires listed { length table.now ≡ needed (dataset_of grid.now) }
-    requires few { needed (dataset_of grid.now) ≤ limit_of format_limits (dataset_of grid.now).layout.index }
-    requires name { length name.now ≤ 255 }
-    requires low { 1024 ≤ limit }
+    so_far: &mut Planning,
+) -> Result<(), PlanError>
+    requires sources { AreSources sources.now }
+    requires begun { IsBegun (first_place (map wanted_of sources.now)) (fronts_end (map wanted_of sources.now)) so_far.old }
+    requires small { fronts_end (map wanted_of sources.now) ≤ 8192 }
+    requires low { fronts_end (map wanted_of sources.now) ≤ limit }
     requires high { limit ≤ 2 ^ 40 }
-    ensures planned { IfOk result (λ p. IsPlanned name.now (dataset_of grid.now) table.now limit p) }
+    ensures all { OnOk result (AreAll (map wanted_of sources.now) limit so_far.new) }
+    ensures full { (full : Full) → result ≡ Err (PlanError.Full full) → IsOut (map wanted_of sources.now) limit full }
+{
+    for source in sources {
+        put_set(alloc, source, limit, so_far)?;
+    }
+    Ok(())
+}
+
+/// The plan of a file, once all its datasets are planned, or why they are not.
+fn planned(so_far: Planning, all: Result<(), PlanError>) -> Result<Packing, PlanError>
+    requires low { OnOk all (All EndsLow so_far.chunks.items) }
+    requires links { OnOk all (length (msgs_bytes so_far.links) ≤ 2188) }
+    ensures plan { IfOk result (IsPlanOf so_far) }
+    ensures ok { OnOk result (IsOk all) }
+    ensures full { (full : Full) → result ≡ Err (PlanError.Full full) → all ≡ Err (PlanError.Full full) }
+{
+    match all {
+        Ok(()) => Ok(finished(so_far)?),
+        Err(error) => Err(error),
+    }
+}
+
+/// Plans a file of these datasets under their names, which ends by `limit`. The places begin behind all blocks in place; then, of one dataset
+/// after another, the chunks come in rising order of their keys, and behind them the other blocks of the index, each behind those that it
+/// names.
+pub fn plan(alloc: Global, sources: &[Source], limit: u64) -> Result<Packing, PlanError>
+    requires sources { AreSources sources.now }
+    requires low { 1024 * length sources.now ≤ limit }
+    requires high { limit ≤ 2 ^ 40 }
+    ensures planned { IfOk result (IsPlanned (map wanted_of sources.now) limit) }
     // what a copy rests on
     ensures prepared { IfOk result IsPrepared }
     // the first range by its place that would end past the limit
-    ensures full { (full : Full) → result ≡ Err (PlanError.Full full) → IsOut name.now (dataset_of grid.now) table.now limit full }
+    ensures full { (full : Full) → result ≡ Err (PlanError.Full full) → IsOut (map wanted_of sources.now) limit full }
 {
-    let front = front_of(alloc, name, grid)?;
-    let mut unchanged = Vec::new(alloc);
-    let layout = &front.grid.layout;
-    let mut index = new_index(
-        alloc,
-        layout.index,
-        layout.address,
-        front.block,
-        &mut unchanged,
-    )?;
-    let mut places = Places::new(alloc, front.end, limit);
-    let settled = settle(alloc, &front.grid, table, &mut places, &mut index);
-    finished(alloc, &front, settled, &unchanged, places.end())
+    let place = first_place(sources);
+    let top = place + fronts_len(alloc, sources)?;
+    let mut so_far = begun(alloc, place, top)?;
+    let all = put_sets(alloc, sources, limit, &mut so_far);
+    planned(so_far, all)
 }

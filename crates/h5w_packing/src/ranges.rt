@@ -73,6 +73,14 @@ impl Ranges {
         Ok(())
     }
 
+    /// Moves these ranges behind the others.
+    pub fn append(&mut self, more: &mut Ranges) -> Result<(), OutOfMemory>
+        ensures { OnOk result (self.new ≡ self.old ++ more.old) }
+    {
+        self.list.append(&mut more.list)?;
+        Ok(())
+    }
+
     /// The ranges.
     pub fn as_slice(&self) -> &[Range]
         ensures { map tile_of result.now ≡ self.now }

@@ -1,12 +1,20 @@
-//! The pieces of a packed file that are written behind the chunks.
-ghost use Rattle.std.specs.Prelude.{◌≡◌, ◌++◌, if◌then◌else◌, IfOk, OnOk};
+//! The root header and the superblock of a packed file, as they are written.
+ghost use Rattle.std.specs.Prelude.{◌≡◌, ◌≤◌, ◌++◌, length, OnOk};
+ghost use Rattle.h5w_model.specs.Headers.{header_bytes, msgs_bytes};
+ghost use Rattle.h5w_model.specs.Images.{pieces};
+ghost use Rattle.h5w_model.specs.Superblock.{super_bytes};
 ghost use Rattle.h5w_packing_laws.specs.Packing.{packed_super};
-ghost use Rattle.h5w_packing.specs.Plans.{head_writes};
 
-use crate::front::Front;
-use h5w_cache::Plan;
+use h5w_cache::put_pieces;
 use h5w_creation::ROOT_PLACE;
 use h5w_model::{OutOfMemory, Piece, Super, Write};
+use h5w_ohdr::Msgs;
+
+/// More bytes than the root header of eight names has.
+const ROOT_MOST: usize = 4096;
+
+/// In how many pieces at most the root header is written.
+const ROOT_PIECES: usize = 5;
 
 /// The superblock of a file that ends there, and that nobody writes.
 fn superblock(end: u64) -> Super
@@ -20,56 +28,24 @@ fn superblock(end: u64) -> Super
     }
 }
 
-/// Puts the writes of the headers, and last of the superblock, behind others.
-pub fn put_headers(front: &Front, end: u64, writes: &mut Vec<Write>) -> Result<(), OutOfMemory>
-    ensures { OnOk result (writes.new.items ≡ writes.old.items ++ head_writes front.now.root front.now.header front.now.place end) }
+/// Its write.
+pub fn superblock_write(end: u64) -> Write
+    ensures { result ≡ record { at = 0; piece = super_bytes (packed_super end) } }
 {
-    writes.push(Write {
-        at: front.place,
-        piece: Piece::of(front.header.as_slice()),
-    })?;
-    writes.push(Write {
-        at: ROOT_PLACE,
-        piece: Piece::of(front.root.as_slice()),
-    })?;
-    writes.push(Write {
+    Write {
         at: 0,
         piece: Piece::of(&h5w_super::encode(&superblock(end))),
-    })?;
-    Ok(())
+    }
 }
 
-/// Puts pieces behind others.
-fn put_all(pieces: &[Write], writes: &mut Vec<Write>) -> Result<(), OutOfMemory>
-    ensures { OnOk result (writes.new.items ≡ writes.old.items ++ pieces.now) }
+/// Puts the pieces of the root header with these messages behind others.
+pub fn put_root(links: &Msgs, writes: &mut Vec<Write>) -> Result<(), OutOfMemory>
+    requires size { length (msgs_bytes links.now) ≤ 2188 }
+    ensures { OnOk result (writes.new.items ≡ writes.old.items ++ pieces 48 (header_bytes links.now)) }
 {
-    for w in pieces {
-        writes.push(Write {
-            at: w.at,
-            piece: Piece::of(w.piece.as_slice()),
-        })?;
-    }
+    let mut bytes = [0; ROOT_MOST];
+    let len = links.encode(&mut bytes);
+    writes.reserve(ROOT_PIECES)?;
+    put_pieces(ROOT_PLACE, &bytes[..len], writes);
     Ok(())
-}
-
-/// The writes of an index's plan. Where nothing changed these blocks in place are written, which have no chunk.
-pub fn planned_writes(
-    plan: Plan,
-    clean: bool,
-    unchanged: &[Write],
-) -> Result<Vec<Write>, OutOfMemory>
-    ensures { IfOk result (λ v. v.items ≡ plan.copies.items ++ (if clean then unchanged.now else plan.in_place.items)) }
-{
-    let Plan {
-        copies,
-        in_place,
-        ..
-    } = plan;
-    let mut writes = copies;
-    if clean {
-        put_all(unchanged, &mut writes)?;
-    } else {
-        put_all(&in_place, &mut writes)?;
-    }
-    Ok(writes)
 }

@@ -6,9 +6,9 @@ pub mod RangeLemmas
 pub mod MapLemmas
 pub mod CopyLemmas
 pub mod StandLemmas
-pub mod RootLemmas
 pub mod TreePlanLemmas
 pub mod TopLemmas
 pub mod NewLemmas
 pub mod PackedLemmas
+pub mod FileLemmas
 pub mod SourceLemmas

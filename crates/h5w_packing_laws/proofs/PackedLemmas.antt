@@ -1,4 +1,4 @@
--- The index that is made for a file that is written anew, and the file.
+-- The index that is made for a dataset of a file that is written anew, and where its blocks stand.
 use Rattle.std.proofs.Common.{◌≡◌, ◌⊎◌, ℕ, ◌+◌, ◌*◌, ◌<◌, ◌≤◌, ◌^◌, List, [], ◌∷◌, ◌++◌, get_or, length, length-append, Ok, refl, sym, ◌∙◌, ap, subst, inl, inr, arith, sum_by, append-nil}
 use Rattle.std.specs.Prelude.{map, ℤ}
 use Rattle.std.specs.List.{All, range_with_len}
@@ -63,8 +63,8 @@ use Rattle.h5w_creation_laws.proofs.RootLemmas.{look_at}
 use Rattle.h5w_creation.specs.Headers.{links_to}
 use Rattle.h5w_creation.specs.Made.{IsNewIndex, index_writes}
 use Rattle.h5w_packing_laws.specs.Growing.{AreNamed, IsPiece, IsTight, RangesFrom, named_from, own_blocks}
-use Rattle.h5w_packing_laws.specs.Packing.{AreInPlace, IsLaidOut, IsPacking, header_writes, packed_ranges, packed_super, tops_of}
-use Rattle.h5w_packing_laws.specs.PackingLaws.{AreCells, BlocksWritten, IndexMade, IndexThere, IsPackedFile, PackedBlocks, PackedFile, PackedIndex, PackedMade, PackedTiles, packed_moment}
+use Rattle.h5w_packing_laws.specs.Packing.{AreInPlace, IsLaidOut, IsPackedSet, IsPacking, PackedSet, front_ranges, set_names, tops_of}
+use Rattle.h5w_packing_laws.specs.PackingLaws.{IndexMade, IndexThere, PackedIndex, PackedMade, PackedTiles, TopsWritten}
 use Rattle.h5w_packing_laws.proofs.CopyLemmas.{copies_behind, nodes_behind, nodes_some}
 use Rattle.h5w_packing_laws.proofs.GrownLemmas.{GrownTold, address_after, chunks_of, grown}
 use Rattle.h5w_packing_laws.proofs.MapLemmas.{chunks_each, chunks_same, keys_differ, listed_is, mapped}
@@ -72,7 +72,6 @@ use Rattle.h5w_packing_laws.proofs.NewLemmas.{empty_stands, named_changes, new_a
 use Rattle.h5w_packing_laws.proofs.RangeLemmas.{part_turned, ranges_apart, ranges_end, ranges_joined, ranges_rise}
 use Rattle.h5w_packing_laws.proofs.StandLemmas.{index_stands}
 use Rattle.h5w_packing_laws.proofs.SumLemmas.{same_sums}
-use Rattle.h5w_packing_laws.proofs.RootLemmas.{links_stand}
 use Rattle.h5w_packing_laws.proofs.TightLemmas.{Follows, moves_follow, nodes_follow}
 use Rattle.h5w_packing_laws.proofs.TopLemmas.{FixedAre, new_part, new_pieces, new_whole, plan_fixed}
 use Rattle.h5w_packing_laws.proofs.TreePlanLemmas.{plan_behind, plan_count}
@@ -210,7 +209,7 @@ map_twice : (g : Key → ℕ) (f : ℕ → Key) (xs : List ℕ) → map g (map f
 map_twice g f [] = refl
 map_twice g f (x ∷ xs) = ap (λ (l : List ℕ). g (f x) ∷ l) (map_twice g f xs)
 
-module _ (name : List ℕ) (d : Described) (place block : ℕ) (table : List ℕ) (first : Space) (ms : List Move) (copies : List (ℕ × List ℕ)) (fixed : List Write) (w : IndexView) (t : Space) (laid : IsLaidOut name d place block first.end)
+module _ (d : Described) (place block top : ℕ) (table : List ℕ) (first : Space) (ms : List Move) (copies : List (ℕ × List ℕ)) (fixed : List Write) (w : IndexView) (t : Space) (laid : IsLaidOut d place block top) (above : top ≤ first.end)
     (x : IsPacking d block table first ms copies fixed w t) where
   abbrev at : ℕ
   at = d.layout.address
@@ -245,16 +244,16 @@ module _ (name : List ℕ) (d : Described) (place block : ℕ) (table : List ℕ
   placed : IsPlaced x.full x.s ms copies w t
   placed = packed_placed d block table first ms copies fixed w t x
 
-  top_ranges : RangesFrom at (tops_of kind at block) first.end
-  top_ranges = tops_from kind at block first.end laid.block laid.end
+  top_ranges : RangesFrom at (tops_of kind at block) top
+  top_ranges = tops_from kind at block top laid.block laid.end
 
   low : at < undefined
-  low = omega (arith, ranges_rise at first.end (tops_of kind at block) top_ranges, laid.small)
+  low = omega (arith, ranges_rise at top (tops_of kind at block) top_ranges, laid.small)
 
   lower : block < undefined
-  lower = omega (arith, ranges_rise at first.end (tops_of kind at block) top_ranges, laid.small, laid.block)
+  lower = omega (arith, ranges_rise at top (tops_of kind at block) top_ranges, laid.small, laid.block)
 
-  some_bytes : 0 < bytes
+  pub some_bytes : 0 < bytes
   some_bytes =
       let s = laid.spellable in
       let size = (int_size_bounds d.int_type.size s.int_type).0 in
@@ -262,10 +261,10 @@ module _ (name : List ℕ) (d : Described) (place block : ℕ) (table : List ℕ
 
   -- ---- The ranges, one after another
 
-  behind_from : RangesFrom first.end (chunks ++ fresh ms) t.end
+  pub behind_from : RangesFrom first.end (chunks ++ fresh ms) t.end
   behind_from = ranges_joined first.end (x.s).end t.end chunks (fresh ms) x.chunks placed.ranges
 
-  behind_some : AllSome (chunks ++ fresh ms)
+  pub behind_some : AllSome (chunks ++ fresh ms)
   behind_some = some_joined chunks (fresh ms) (chunks_some_by bytes table some_bytes) placed.some
 
   behind_apart : Disjoint (chunks ++ fresh ms)
@@ -276,7 +275,7 @@ module _ (name : List ℕ) (d : Described) (place block : ℕ) (table : List ℕ
   fixed_new : fixed_of x.new ≡ tops_ranges
   fixed_new = new_fixed at block x.new made ∙ ap (λ k. tops_of k at block) (sym same_kind)
 
-  behind_all : AreAmong (behind_of bytes w) (chunks ++ fresh ms)
+  pub behind_all : AreAmong (behind_of bytes w) (chunks ++ fresh ms)
   behind_all =
       let grown_behind : AreAmong (behind_of bytes x.full) chunks =
       part_onward (behind_of bytes x.full) (chunks_of bytes cs ++ behind_of bytes x.new) chunks (told.behind bytes) (part_as (chunks_of bytes cs ++ behind_of bytes x.new) chunks
@@ -315,11 +314,11 @@ module _ (name : List ℕ) (d : Described) (place block : ℕ) (table : List ℕ
 
   ends_new : AllEndBy (x.s).end (fixed_of x.new)
   ends_new u a =
-      let here = ranges_end at first.end (tops_of kind at block) top_ranges u (subst (λ (us : List Used). Among u us) fixed_new a) in
-      omega (arith, here, ranges_rise first.end (x.s).end chunks x.chunks)
+      let here = ranges_end at top (tops_of kind at block) top_ranges u (subst (λ (us : List Used). Among u us) fixed_new a) in
+      omega (arith, here, above, ranges_rise first.end (x.s).end chunks x.chunks)
 
   apart_new : Disjoint (fixed_of x.new)
-  apart_new = subst (λ (us : List Used). Disjoint us) (sym fixed_new) (ranges_apart at first.end (tops_of kind at block) (tops_some kind at block) top_ranges)
+  apart_new = subst (λ (us : List Used). Disjoint us) (sym fixed_new) (ranges_apart at top (tops_of kind at block) (tops_some kind at block) top_ranges)
 
   full_is : length cs ≤ 0 → x.full ≡ x.new
   full_is none = subst (λ (l : List (Key × ℕ)). AreNamed x.new l x.full) (no_list cs none) x.named
@@ -327,28 +326,17 @@ module _ (name : List ℕ) (d : Described) (place block : ℕ) (table : List ℕ
   full_clean : length cs ≤ 0 → IsClean x.full
   full_clean none = subst IsClean (sym (full_is none)) (new_clean at block x.new made)
 
-  -- ---- All ranges of the file
+  -- ---- Its header, and the blocks in place
 
-  abbrev root : Used
-  root = block_at 48 (length (header_bytes (links_to name place)))
-
-  abbrev header : Used
+  abbrev pub header : Used
   header = block_at place (length (spelled_header d))
 
-  all_from : RangesFrom 0 (packed_ranges name d place block table ms) t.end
-  all_from =
-      let all : RangesFrom at (tops_ranges ++ (chunks ++ fresh ms)) t.end = ranges_joined at first.end t.end tops_ranges (chunks ++ fresh ms) top_ranges behind_from in
-      let from : at ≡ 48 + root.len + header.len = omega (arith, laid.index, laid.header) in
-      (refl, (refl, (laid.header, subst (λ n. RangesFrom n (tops_ranges ++ (chunks ++ fresh ms)) t.end) from all)))
+  pub header_from : RangesFrom place (header ∷ tops_ranges) top
+  header_from = (refl, subst (λ n. RangesFrom n tops_ranges top) laid.index top_ranges)
 
-  all_some : AllSome (packed_ranges name d place block table ms)
-  all_some = some_joined (the_superblock ∷ root ∷ header ∷ []) (tops_ranges ++ (chunks ++ fresh ms)) heads (some_joined tops_ranges (chunks ++ fresh ms) (tops_some kind at block) behind_some)
-    where
-      heads : AllSome (the_superblock ∷ root ∷ header ∷ [])
-      heads u (inl e) = subst (λ (y : Used). 0 < y.len) e (omega arith)
-      heads u (inr (inl e)) = subst (λ (y : Used). 0 < y.len) e (omega (arith, length-header_bytes (links_to name place)))
-      heads u (inr (inr (inl e))) = subst (λ (y : Used). 0 < y.len) e (omega (arith, length-header_bytes (spelled_messages d)))
-      heads u (inr (inr (inr a))) = absurd a
+  pub header_some : AllSome (header ∷ tops_ranges)
+  header_some u (inl e) = subst (λ (y : Used). 0 < y.len) e (omega (arith, length-header_bytes (spelled_messages d)))
+  header_some u (inr a) = tops_some kind at block u a
 
   -- ---- The blocks in place
 
@@ -361,28 +349,21 @@ module _ (name : List ℕ) (d : Described) (place block : ℕ) (table : List ℕ
         go [] e h = absurd (omega (arith, h))
         go (a ∷ l) e h = absurd (omega (arith, ap length e, length-append chunks (fresh ms), ap length none))
 
-    pub blocks_are : BlocksWritten name d place block table ms tops t.end
-    blocks_are = go (cases_lt 0 (length cs))
+    abbrev Whole : Type 0
+    Whole = chunks ++ fresh ms ≡ [] → AllAmong tops_ranges (block_ranges (own_blocks tops))
+
+    pub tops_are : (AreAmong (block_ranges (own_blocks tops)) tops_ranges × All IsPiece tops) × Whole
+    tops_are = go (cases_lt 0 (length cs))
       where
-        go : (0 < length cs) ⊎ (length cs ≤ 0) → BlocksWritten name d place block table ms tops t.end
+        go : (0 < length cs) ⊎ (length cs ≤ 0) → (AreAmong (block_ranges (own_blocks tops)) tops_ranges × All IsPiece tops) × Whole
         go (inl some) =
             let are : FixedAre w tops = subst (FixedAre w) (sym (which.changed (named_changes at block x.new x.full cs made told some))) (plan_fixed x.full w x.s t ms (block_writes copies) fixed x.plan) in
-            record {
-              from = all_from;
-              some = all_some;
-              part = subst (λ (us : List Used). AreAmong (block_ranges (own_blocks tops)) us) made_is.fixed are.part;
-              pieces = are.pieces;
-              whole = λ none. absurd (named_chunk some none);
-            }
+            ((subst (λ (us : List Used). AreAmong (block_ranges (own_blocks tops)) us) made_is.fixed are.part, are.pieces), λ none. absurd (named_chunk some none))
         go (inr none) =
-            let are : index_writes kind at block ≡ tops = sym (which.clean (full_clean none)) in
-            record {
-              from = all_from;
-              some = all_some;
-              part = subst (λ (ws : List Write). AreAmong (block_ranges (own_blocks ws)) (tops_of kind at block)) are (new_part kind at block);
-              pieces = subst (All IsPiece) are (new_pieces kind at block);
-              whole = λ e u a. subst (λ (ws : List Write). Among u (block_ranges (own_blocks ws))) are (new_whole kind at block u a);
-            }
+            let are : index_writes kind at block ≡ tops = sym (which.clean (full_clean none)) in (
+              (subst (λ (ws : List Write). AreAmong (block_ranges (own_blocks ws)) tops_ranges) are (new_part kind at block), subst (All IsPiece) are (new_pieces kind at block)),
+              λ e u a. subst (λ (ws : List Write). Among u (block_ranges (own_blocks ws))) are (new_whole kind at block u a),
+            )
 
   module _ (to : List ℕ) (tops : List Write) (which : AreInPlace x.full kind at block fixed tops) (holds : Holds to copies) (tops_hold : Holds to (own_blocks tops)) where
     stands : StandsOn w to
@@ -398,115 +379,48 @@ module _ (name : List ℕ) (d : Described) (place block : ℕ) (table : List ℕ
             let writes : tops ≡ index_writes (kind_of x.new) at block = which.clean clean ∙ ap (λ k. index_writes k at block) same_kind in
             subst (λ (v : IndexView). StandsOn v to) (sym same) (empty_stands at block x.new to low lower made (subst (λ (ws : List Write). Holds to (own_blocks ws)) writes tops_hold))
 
-    pub there : IndexThere to t.end d w
-    there =
-        let ends : AllEndBy t.end (fixed_of w) = λ u a.
-        let here = ranges_end at first.end (tops_of kind at block) top_ranges u (subst (λ (us : List Used). Among u us) made_is.fixed a) in
-        omega (arith, here, ranges_rise first.end t.end (chunks ++ fresh ms) behind_from) in
-        record { stands = stands; is = index_stands to t.end d w made_is.sound made_is.clean stands made_is.kind made_is.place ends (λ u a. ranges_end first.end t.end (chunks ++ fresh ms) behind_from u (behind_all.among u a)) }
+    module _ (end : ℕ) (within : t.end ≤ end) where
+      pub there : IndexThere to end d w
+      there =
+          let ends : AllEndBy end (fixed_of w) = λ u a.
+          let here = ranges_end at top (tops_of kind at block) top_ranges u (subst (λ (us : List Used). Among u us) made_is.fixed a) in
+          omega (arith, here, above, within, ranges_rise first.end t.end (chunks ++ fresh ms) behind_from) in
+          let behinds : AllEndBy end (behind_of bytes w) = λ u a. let here = ranges_end first.end t.end (chunks ++ fresh ms) behind_from u (behind_all.among u a) in omega (arith, here, within) in
+          record { stands = stands; is = index_stands to end d w made_is.sound made_is.clean stands made_is.kind made_is.place ends behinds }
 
-    -- ---- The file
+      -- ---- The table
 
-    few : AreFew d
-    few = le-ltb (limit_of format_limits kind) (needed d) laid.few
+      pub few_needed : AreFew d
+      few_needed = le-ltb (limit_of format_limits kind) (needed d) laid.few
 
-    table_is : map (λ (key : Key). address_in w key) (needed_keys d) ≡ table
-    table_is =
-        let f : ℕ → ℕ = λ n. address_in w (index_key d n) in
-        map_twice (λ (key : Key). address_in w key) (index_key d) (range_with_len 0 (needed d))
-        ∙ ap (λ n. map f (range_with_len 0 n)) (sym x.listed)
-        ∙ listed_is f table 0 (λ k inside. ap f (let z : 0 + k ≡ k = omega arith in z) ∙ map_is k (subst (λ n. k < n) x.listed inside))
+      table_is : map (λ (key : Key). address_in w key) (needed_keys d) ≡ table
+      table_is =
+          let f : ℕ → ℕ = λ n. address_in w (index_key d n) in
+          map_twice (λ (key : Key). address_in w key) (index_key d) (range_with_len 0 (needed d))
+          ∙ ap (λ n. map f (range_with_len 0 n)) (sym x.listed)
+          ∙ listed_is f table 0 (λ k inside. ap f (let z : 0 + k ≡ k = omega arith in z) ∙ map_is k (subst (λ n. k < n) x.listed inside))
 
-    table_found : eval to (table_of d (needed_keys d)) ≡ Ok table
-    table_found = subst (λ (l : List ℕ). eval to (table_of d (needed_keys d)) ≡ Ok l) table_is (table_of_map to d (λ key. address_in w key) few there.is.map)
+      pub table_found : eval to (table_of d (needed_keys d)) ≡ Ok table
+      table_found = subst (λ (l : List ℕ). eval to (table_of d (needed_keys d)) ≡ Ok l) table_is (table_of_map to d (λ key. address_in w key) few_needed there.is.map)
 
-    -- each chunk and each block that is written is a range of the index
-    all_there : AllAmong (chunks ++ fresh ms) (behind_of bytes w)
-    all_there u a = go (among_split u chunks (fresh ms) a)
-      where
-        go : Among u chunks ⊎ Among u (fresh ms) → Among u (behind_of bytes w)
-        go (inl b) =
-            let has = table_laws.any to t.end d (fixed_of w) (behind_of bytes w) table there.is.index few table_found in
-            chunks_each (λ (y : Used). Among y (behind_of bytes w)) bytes table (λ n defined. has.chunks n defined) u b
-        go (inr b) = placed.there bytes u b
+      -- each chunk and each block that is written is a range of the index
+      all_there : AllAmong (chunks ++ fresh ms) (behind_of bytes w)
+      all_there u a = go (among_split u chunks (fresh ms) a)
+        where
+          go : Among u chunks ⊎ Among u (fresh ms) → Among u (behind_of bytes w)
+          go (inl b) =
+              let has = table_laws.any to end d (fixed_of w) (behind_of bytes w) table there.is.index few_needed table_found in
+              chunks_each (λ (y : Used). Among y (behind_of bytes w)) bytes table (λ n defined. has.chunks n defined) u b
+          go (inr b) = placed.there bytes u b
 
-    behind_once : Disjoint (behind_of bytes w)
-    behind_once = disjoint_part (chunks ++ fresh ms) (behind_of bytes w) behind_apart behind_all.among behind_all.counts
+      behind_once : Disjoint (behind_of bytes w)
+      behind_once = disjoint_part (chunks ++ fresh ms) (behind_of bytes w) behind_apart behind_all.among behind_all.counts
 
-    same_behind : AreSame (behind_of bytes w) (chunks ++ fresh ms)
-    same_behind = same_sums (chunks ++ fresh ms) (behind_of bytes w) behind_apart behind_once behind_all.among all_there
-
-    -- ---- The file
-
-    -- the ranges before the chunks
-    abbrev front : List Used
-    front = the_superblock ∷ root ∷ header ∷ tops_ranges
-
-    abbrev file : List ℤ → Moment
-    file values = packed_moment name d place table w t.end values
-
-    used_are : (values : List ℤ) → all_used (file values) ≡ front ++ behind_of bytes w
-    used_are values = ap (λ (us : List Used). the_superblock ∷ root ∷ header ∷ (us ++ behind_of bytes w)) made_is.fixed
-
-    used_apart : (values : List ℤ) → Disjoint (all_used (file values))
-    used_apart values =
-        let part : AreAmong (front ++ behind_of bytes w) (front ++ (chunks ++ fresh ms)) = part_joined front (behind_of bytes w) front (chunks ++ fresh ms) (part_itself front) behind_all in
-        subst (λ (us : List Used). Disjoint us) (sym (used_are values))
-        (disjoint_part (packed_ranges name d place block table ms) (front ++ behind_of bytes w) (ranges_apart 0 t.end (packed_ranges name d place block table ms) all_some all_from) part.among part.counts)
-
-    used_same : (values : List ℤ) → AreSame (packed_ranges name d place block table ms) (all_used (file values))
-    used_same values f =
-        let whole : sum_by f (front ++ (chunks ++ fresh ms)) ≡ sum_by f front + sum_by f (chunks ++ fresh ms) = sum_by-append f front (chunks ++ fresh ms) in
-        let own : sum_by f (front ++ behind_of bytes w) ≡ sum_by f front + sum_by f (behind_of bytes w) = sum_by-append f front (behind_of bytes w) in
-        let last : sum_by f (front ++ (chunks ++ fresh ms)) ≡ sum_by f (front ++ behind_of bytes w) = omega (arith, whole, own, same_behind f) in
-        last ∙ ap (sum_by f) (sym (used_are values))
-
-    module _ (values : List ℤ) (small : t.end < 2 ^ 64) (long : length to ≡ t.end) (heads : Holds to (own_blocks (header_writes name d place t.end))) (count : length values ≡ d.shape.rows * d.shape.cols) (cells : AreCells to place d table values) where
-      top_end : at ≤ t.end
-      top_end = omega (arith, ranges_rise at first.end tops_ranges top_ranges, ranges_rise first.end t.end (chunks ++ fresh ms) behind_from)
-
-      super_there : checked_super (length to) (range to 0 48) ≡ Ok (packed_super t.end)
-      super_there =
-          ap (checked_super (length to)) (look_at to 0 48 (super_bytes (packed_super t.end)) heads.1.1.0 (length-super_bytes (packed_super t.end)))
-          ∙ rw (super_at-super_bytes (packed_super t.end) (inr refl) small (omega arith), le-ltb (length to) t.end (omega (arith, long))) refl
-
-      header_within : place + header.len ≤ t.end
-      header_within = omega (arith, laid.index, top_end)
-
-      place_low : place < 2 ^ 64
-      place_low = omega (arith, laid.index, low)
-
-      pub is_file : IsPackedFile to name d place block table ms w t.end values
-      is_file = record {
-        represents = record {
-          super = super_there;
-          root = record {
-            own = root ∷ [];
-            others = [];
-            is = refl;
-            checked = links_stand to name place laid.named place_low (packed_super t.end) (omega (arith, laid.header, laid.index, top_end)) heads.1.0;
-            ends = λ u a. absurd a;
-          };
-          header = (spelled_stands to format_limits (packed_super t.end) place d laid.spellable heads.0 header_within few).header;
-          index = there.is.index;
-          apart = used_apart values;
-          table = table_found;
-          count = count;
-          cells = cells;
-        };
-        alone = refl;
-        used = used_same values;
-      }
+      pub same_behind : AreSame (behind_of bytes w) (chunks ++ fresh ms)
+      same_behind = same_sums (chunks ++ fresh ms) (behind_of bytes w) behind_apart behind_once behind_all.among all_there
 
 pub packed_made : PackedMade
-packed_made name d place block table first ms copies fixed w t laid x = made_is name d place block table first ms copies fixed w t laid x
-
-pub packed_blocks : PackedBlocks
-packed_blocks name d place block table first ms copies fixed tops w t laid x which = blocks_are name d place block table first ms copies fixed w t laid x tops which
+packed_made d place block top table first ms copies fixed w t laid above x = made_is d place block top table first ms copies fixed w t laid above x
 
 pub packed_index : PackedIndex
-packed_index name d place block table first ms copies fixed tops w t to laid x which holds tops_hold = there name d place block table first ms copies fixed w t laid x to tops which holds tops_hold
-
-pub packed_file : PackedFile
-packed_file name d place block table first ms copies fixed tops w t to values laid x which small long holds tops_hold heads count cells =
-    is_file name d place block table first ms copies fixed w t laid x to tops which holds tops_hold values small long heads count cells
+packed_index d place block top table first ms copies fixed tops w t to end laid above x which holds tops_hold within = there d place block top table first ms copies fixed w t laid above x to tops which holds tops_hold end within

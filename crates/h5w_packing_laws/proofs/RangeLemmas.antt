@@ -1,5 +1,6 @@
 -- Ranges that stand one after another without a gap.
-use Rattle.std.proofs.Common.{◌⊎◌, ℕ, ◌+◌, ◌≤◌, List, [], ◌∷◌, ◌++◌, refl, sym, subst, inl, inr, arith}
+use Rattle.std.proofs.Common.{◌≡◌, ◌⊎◌, ℕ, ◌+◌, ◌≤◌, List, [], ◌∷◌, ◌++◌, refl, sym, subst, inl, inr, arith, sum_by}
+use Rattle.std.proofs.lemmas.List.Sums.{sum_by-cons}
 use Rattle.h5w_model.specs.Findings.{Used}
 use Rattle.h5w_visits.specs.Ranges.{AllEndBy, AllSome, Among, Disjoint}
 use Rattle.h5w_visits.proofs.RangeLemmas.{among_left, among_right, among_split}
@@ -42,3 +43,8 @@ part_turned us vs = record { among = λ u a. go u (among_split u us vs a); count
 
 pub part_left : (us vs : List Used) → AreAmong us (us ++ vs)
 part_left us vs = record { among = λ u a. among_left u us vs a; counts = λ p. omega (arith, count_joined p us vs) }
+
+-- how long they are
+pub ranges_sum : (from end : ℕ) (us : List Used) → RangesFrom from us end → from + sum_by (λ (u : Used). u.len) us ≡ end
+ranges_sum from end [] h = omega (arith, h)
+ranges_sum from end (u ∷ us) h = omega (arith, sum_by-cons (λ (v : Used). v.len) u us, ranges_sum (from + u.len) end us h.1)

@@ -1,12 +1,12 @@
 -- The laws of a file that is written anew.
-use Rattle.std.specs.Prelude.{◌≡◌, ℕ, ◌*◌, ◌/◌, ◌%◌, ◌<◌, ◌^◌, List, [], ◌∷◌, ◌++◌, get_or, length, slice_get, ℤ}
-use Rattle.std.specs.List.{All}
+use Rattle.std.specs.Prelude.{◌≡◌, ℕ, ◌*◌, ◌/◌, ◌%◌, ◌<◌, ◌≤◌, ◌^◌, List, [], ◌∷◌, ◌++◌, flat_map, get_or, length, slice_get, ℤ}
+use Rattle.std.specs.List.{All, AllByRecursion}
 use Rattle.h5w_model.specs.Numbers.{undefined}
-use Rattle.h5w_model.specs.Headers.{header_bytes}
-use Rattle.h5w_model.specs.Images.{Holds}
+use Rattle.h5w_model.specs.Images.{At, Holds}
+use Rattle.h5w_model.specs.Superblock.{super_bytes}
 use Rattle.h5w_model.specs.Datasets.{Described}
 use Rattle.h5w_model.specs.Tables.{cell, index_key, needed}
-use Rattle.h5w_model.specs.Findings.{chunk_bytes}
+use Rattle.h5w_model.specs.Findings.{AllSummary, AllValid, Used, chunk_bytes, the_superblock}
 use Rattle.h5w_model.specs.declared.piece.Write.{Write}
 use Rattle.h5w_visits.specs.Ranges.{AllAmong, AllSome, block_at}
 use Rattle.h5w_header_laws.specs.Spelled.{spelled_header}
@@ -19,9 +19,9 @@ use Rattle.h5w_array_laws.specs.ArrayStores.{chunks_in}
 use Rattle.h5w_flush_laws.specs.Parts.{block_ranges}
 use Rattle.h5w_tree_index_laws.specs.TreeImages.{AreSame}
 use Rattle.h5w_index.specs.Views.{IndexView, IsClean, IsSound, StandsOn, address_in, behind_of, fixed_of, header_place, kind_of}
-use Rattle.h5w_creation.specs.Headers.{links_to}
+use Rattle.h5w_several_creation_laws.specs.SeveralFiles.{AllNamed}
 use Rattle.h5w_packing_laws.specs.Growing.{IsPiece, RangesFrom, own_blocks}
-use Rattle.h5w_packing_laws.specs.Packing.{AreInPlace, IsLaidOut, IsPacking, header_writes, packed_ranges, packed_super, tops_of}
+use Rattle.h5w_packing_laws.specs.Packing.{AreInPlace, ArePacked, IsLaidOut, IsPackedSet, IsPacking, PackedSet, behind_ranges, packed_ranges, packed_super, root_bytes, root_range, set_names, tops_of}
 use Rattle.h5w_packing_laws.specs.Standing.{IndexOf}
 
 -- The blocks of the plan stand one after another: those that its copies write.
@@ -46,60 +46,81 @@ pub record IndexMade (d : Described) (block : ℕ) (table : List ℕ) (ms : List
   pub behind : AreAmong (behind_of (chunk_bytes d) w) (chunks_in (chunk_bytes d) table ++ fresh ms)
 
 abbrev pub PackedMade : Type 0
-PackedMade = (name : List ℕ) (d : Described) (place block : ℕ) (table : List ℕ) (first : Space) (ms : List Move) (copies : List (ℕ × List ℕ)) (fixed : List Write) (w : IndexView) (t : Space)
-    → IsLaidOut name d place block first.end → IsPacking d block table first ms copies fixed w t → IndexMade d block table ms w
+PackedMade = (d : Described) (place block top : ℕ) (table : List ℕ) (first : Space) (ms : List Move) (copies : List (ℕ × List ℕ)) (fixed : List Write) (w : IndexView) (t : Space)
+    → IsLaidOut d place block top → top ≤ first.end → IsPacking d block table first ms copies fixed w t → IndexMade d block table ms w
 
--- On an image on which its blocks stand, those in place as they are written, it stands, and it is the dataset's index.
+-- On an image on which its blocks stand, those in place as they are written, it stands, and it is the dataset's index, where the file does not
+-- end before its blocks.
 pub record IndexThere (to : List ℕ) (end : ℕ) (d : Described) (w : IndexView) : Type 0 where
   pub stands : StandsOn w to
   pub is : IndexOf to end d w
 
 abbrev pub PackedIndex : Type 0
-PackedIndex = (name : List ℕ) (d : Described) (place block : ℕ) (table : List ℕ) (first : Space) (ms : List Move) (copies : List (ℕ × List ℕ)) (fixed tops : List Write) (w : IndexView) (t : Space) (to : List ℕ)
-    → IsLaidOut name d place block first.end → (x : IsPacking d block table first ms copies fixed w t) → AreInPlace x.full d.layout.index d.layout.address block fixed tops → Holds to copies → Holds to (own_blocks tops)
-    → IndexThere to t.end d w
+PackedIndex = (d : Described) (place block top : ℕ) (table : List ℕ) (first : Space) (ms : List Move) (copies : List (ℕ × List ℕ)) (fixed tops : List Write) (w : IndexView) (t : Space) (to : List ℕ) (end : ℕ)
+    → IsLaidOut d place block top → top ≤ first.end → (x : IsPacking d block table first ms copies fixed w t) → AreInPlace x.full d.layout.index d.layout.address block fixed tops → Holds to copies → Holds to (own_blocks tops)
+    → t.end ≤ end → IndexThere to end d w
 
--- What all its blocks are: their ranges follow one another from the file's first byte to the end, and none is empty. The blocks in place
--- are written as pieces, each within its range and none more often; where there is no chunk and no block behind them, all of them are.
-pub record BlocksWritten (name : List ℕ) (d : Described) (place block : ℕ) (table : List ℕ) (ms : List Move) (tops : List Write) (end : ℕ) : Type 0 where
-  pub from : RangesFrom 0 (packed_ranges name d place block table ms) end
-  pub some : AllSome (packed_ranges name d place block table ms)
-  pub part : AreAmong (block_ranges (own_blocks tops)) (tops_of d.layout.index d.layout.address block)
-  pub pieces : All IsPiece tops
-  pub whole : chunks_in (chunk_bytes d) table ++ fresh ms ≡ [] → AllAmong (tops_of d.layout.index d.layout.address block) (block_ranges (own_blocks tops))
+-- The blocks in place of a dataset's index are written as pieces, each within its range and none more often; where there is no chunk and no
+-- block behind them, all of them are.
+pub record TopsWritten (x : PackedSet) : Type 0 where
+  pub part : AreAmong (block_ranges (own_blocks x.tops)) (tops_of x.dataset.layout.index x.dataset.layout.address x.block)
+  pub pieces : All IsPiece x.tops
+  pub whole : behind_ranges x ≡ [] → AllAmong (tops_of x.dataset.layout.index x.dataset.layout.address x.block) (block_ranges (own_blocks x.tops))
+
+-- What all blocks are: their ranges follow one another from the file's first byte to the end, and none is empty.
+pub record BlocksWritten (xs : List PackedSet) (end : ℕ) : Type 0 where
+  pub from : RangesFrom 0 (packed_ranges xs) end
+  pub some : AllSome (packed_ranges xs)
+  pub tops : AllByRecursion TopsWritten xs
 
 abbrev pub PackedBlocks : Type 0
-PackedBlocks = (name : List ℕ) (d : Described) (place block : ℕ) (table : List ℕ) (first : Space) (ms : List Move) (copies : List (ℕ × List ℕ)) (fixed tops : List Write) (w : IndexView) (t : Space)
-    → IsLaidOut name d place block first.end → (x : IsPacking d block table first ms copies fixed w t) → AreInPlace x.full d.layout.index d.layout.address block fixed tops → BlocksWritten name d place block table ms tops t.end
+PackedBlocks = (xs : List PackedSet) (top end : ℕ) → AllByRecursion IsPackedSet xs → ArePacked xs top end → BlocksWritten xs end
 
--- The file: no one writes it, it ends with the last block, and it has these values.
-abbrev pub packed_moment : List ℕ → Described → ℕ → List ℕ → IndexView → ℕ → List ℤ → Moment
-packed_moment name d place table w end values = record {
+-- The file of one of its datasets: no one writes it, it ends with the last block, and it has these values.
+abbrev pub packed_moment : List PackedSet → PackedSet → ℕ → List ℤ → Moment
+packed_moment xs x end values = record {
   super = packed_super end;
-  place = place;
-  dataset = d;
-  root = block_at 48 (length (header_bytes (links_to name place))) ∷ [];
-  header = block_at place (length (spelled_header d)) ∷ [];
-  fixed = fixed_of w;
-  behind = behind_of (chunk_bytes d) w;
-  table = table;
+  place = x.place;
+  dataset = x.dataset;
+  root = root_range xs ∷ [];
+  header = block_at x.place (length (spelled_header x.dataset)) ∷ [];
+  fixed = fixed_of x.index;
+  behind = behind_of (chunk_bytes x.dataset) x.index;
+  table = x.table;
   values = values;
 }
-
--- The image is the file, and what the file uses is all its ranges, each once.
-pub record IsPackedFile (to name : List ℕ) (d : Described) (place block : ℕ) (table : List ℕ) (ms : List Move) (w : IndexView) (end : ℕ) (values : List ℤ) : Type 0 where
-  pub represents : Represents to name (packed_moment name d place table w end values)
-  pub alone : represents.root.others ≡ []
-  pub used : AreSame (packed_ranges name d place block table ms) (all_used (packed_moment name d place table w end values))
 
 -- the cells of all rows, one after another, have these values
 abbrev pub AreCells : List ℕ → ℕ → Described → List ℕ → List ℤ → Type 0
 AreCells to place d table values =
     (k : ℕ) → k < length values → cell to (record { place = place; dataset = d; table = table }) (k / d.shape.cols) (k % d.shape.cols) ≡ slice_get values k
 
--- So it is where all its blocks stand, and the chunks' cells have these values.
+-- by the name of a dataset the image is its file, whatever its values are
+pub record IsPackedOne (to : List ℕ) (xs : List PackedSet) (end : ℕ) (x : PackedSet) : Type 0 where
+  pub represents : (values : List ℤ) → length values ≡ x.dataset.shape.rows * x.dataset.shape.cols → AreCells to x.place x.dataset x.table values → Represents to x.name (packed_moment xs x end values)
+
+-- the ranges that a check finds of a dataset, and of all of them
+abbrev pub set_used : PackedSet → List Used
+set_used x = block_at x.place (length (spelled_header x.dataset)) ∷ (fixed_of x.index ++ behind_of (chunk_bytes x.dataset) x.index)
+
+abbrev pub file_used : List PackedSet → List Used
+file_used xs = the_superblock ∷ root_range xs ∷ flat_map set_used xs
+
+-- The image is the file: what it uses is all its ranges, each once, and no finding applies to all its names together; no byte is lost.
+pub record IsPackedFile (to : List ℕ) (xs : List PackedSet) (end : ℕ) : Type 0 where
+  pub each : AllByRecursion (IsPackedOne to xs end) xs
+  pub used : AreSame (packed_ranges xs) (file_used xs)
+  pub summary : AllSummary
+  pub valid : AllValid to (set_names xs) summary
+  pub whole : summary.lost ≡ 0
+
+-- what is written of a dataset stands
+pub record SetHolds (to : List ℕ) (x : PackedSet) : Type 0 where
+  pub header : At to x.place (spelled_header x.dataset)
+  pub copies : Holds to x.copies
+  pub tops : Holds to (own_blocks x.tops)
+
+-- So it is where all its blocks stand.
 abbrev pub PackedFile : Type 0
-PackedFile = (name : List ℕ) (d : Described) (place block : ℕ) (table : List ℕ) (first : Space) (ms : List Move) (copies : List (ℕ × List ℕ)) (fixed tops : List Write) (w : IndexView) (t : Space) (to : List ℕ) (values : List ℤ)
-    → IsLaidOut name d place block first.end → (x : IsPacking d block table first ms copies fixed w t) → AreInPlace x.full d.layout.index d.layout.address block fixed tops → t.end < 2 ^ 64 → length to ≡ t.end → Holds to copies
-    → Holds to (own_blocks tops) → Holds to (own_blocks (header_writes name d place t.end)) → length values ≡ d.shape.rows * d.shape.cols → AreCells to place d table values
-    → IsPackedFile to name d place block table ms w t.end values
+PackedFile = (xs : List PackedSet) (top end : ℕ) (to : List ℕ) → AllByRecursion IsPackedSet xs → ArePacked xs top end → AllNamed (set_names xs) → end < 2 ^ 64 → length to ≡ end → AllByRecursion (SetHolds to) xs
+    → At to 48 (root_bytes xs) → At to 0 (super_bytes (packed_super end)) → IsPackedFile to xs end

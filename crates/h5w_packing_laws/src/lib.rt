@@ -30,17 +30,17 @@ pub fn packed_made()
     ensures { PackedMade }
 {}
 
-/// All blocks of the file follow one another from its first byte to its end, and are written each within its range.
+/// All blocks of a file of several datasets follow one another from its first byte to its end, and are written each within its range.
 pub fn packed_blocks()
     ensures { PackedBlocks }
 {}
 
-/// It stands on each image on which its blocks do.
+/// An index stands on each image on which its blocks do.
 pub fn packed_index()
     ensures { PackedIndex }
 {}
 
-/// An image on which all blocks stand is the file, and uses all its ranges, each once.
+/// An image on which all blocks stand is the file, valid for all its names together, and uses all its ranges, each once.
 pub fn packed_file()
     ensures { PackedFile }
 {}

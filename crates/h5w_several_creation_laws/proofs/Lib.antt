@@ -1,3 +1,4 @@
+pub mod LinkLemmas
 pub mod PlaceLemmas
 pub mod RootLemmas
 pub mod IndexLemmas

@@ -95,7 +95,7 @@ module _ (flags : ℕ) (fs : List CreatedFile) (img : List ℕ) (h : AreCreatabl
         superblock = s;
         found = super;
         root = root_found fs;
-        read = header_found img fs h root;
+        read = header_found img fs h (omega arith) root;
         root_ranges = root_ranges fs;
         within =
             ranges_from (end_of fs) (root_found fs).ranges (root_ends flags fs img h small super root)

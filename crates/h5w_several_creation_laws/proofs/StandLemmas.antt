@@ -92,7 +92,7 @@ module _ (flags : ℕ) (fs : List CreatedFile) (img : List ℕ) (h : AreCreatabl
           others = [];
           is = refl;
           checked =
-              root_from img f.name s place (root_found fs) (header_found img fs h root) link root_ends
+              root_from img f.name s place (root_found fs) (header_found img fs h (omega arith) root) link root_ends
               ∙ ap (λ (n : ℕ). Ok (place, block_at root_place n ∷ [])) (prefix_total fs);
           ends = λ u a. absurd a;
         };

@@ -1,3 +1,4 @@
+pub mod Links
 pub mod SeveralFiles
 pub mod SeveralLaws
 pub mod SeveralExamples

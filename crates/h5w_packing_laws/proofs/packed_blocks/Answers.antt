@@ -1,4 +1,4 @@
-use Rattle.h5w_packing_laws.proofs.PackedLemmas.{packed_blocks}
+use Rattle.h5w_packing_laws.proofs.FileLemmas.{packed_blocks}
 use Rattle.h5w_packing_laws.proofs.packed_blocks.Goals as goal
 
 pub returns : goal.returns

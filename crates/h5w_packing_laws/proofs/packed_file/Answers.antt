@@ -1,4 +1,4 @@
-use Rattle.h5w_packing_laws.proofs.PackedLemmas.{packed_file}
+use Rattle.h5w_packing_laws.proofs.FileLemmas.{packed_file}
 use Rattle.h5w_packing_laws.proofs.packed_file.Goals as goal
 
 pub returns : goal.returns

@@ -6,7 +6,7 @@ pub loop-chunk-init : goal.loop-chunk-init
 loop-chunk-init c = refl
 
 pub loop-chunk-preserved : goal.loop-chunk-preserved
-loop-chunk-preserved c = chunk_put c.args.len c.args.chunks.now c.loop-chunk.chunk-index _ c.loop-chunk.ranges _ _ c.loop-chunk-test.true c.loop-chunk.invariant c.in_ok-push.ensures.put
+loop-chunk-preserved c = chunk_put c.args.chunks.now c.loop-chunk.chunk-index _ c.loop-chunk.ranges _ _ c.loop-chunk-test.true c.loop-chunk.invariant c.in_ok-push.ensures.put
 
 pub returns : goal.returns
-returns c = chunks_put c.args.len c.args.chunks.now c.loop-chunk.chunk-index c.loop-chunk.ranges _ c.loop-chunk-test.false c.loop-chunk.invariant
+returns c = chunks_put c.args.chunks.now c.loop-chunk.chunk-index c.loop-chunk.ranges _ c.loop-chunk-test.false c.loop-chunk.invariant

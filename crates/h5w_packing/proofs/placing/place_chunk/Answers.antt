@@ -8,7 +8,7 @@ use Rattle.h5w_index.specs.Held.{view_of}
 use Rattle.h5w_index.specs.Views.{HasSlot}
 use Rattle.h5w_index.specs.Steps.{IsDeep, IsHeld, IsSet}
 use Rattle.h5w_packing.proofs.PlaceLemmas.{kind_stays, not_deep, tight_place}
-use Rattle.h5w_packing.proofs.planning.place_chunk.Goals as goal
+use Rattle.h5w_packing.proofs.placing.place_chunk.Goals as goal
 
 pub unreachable-requires : goal.unreachable-requires
 unreachable-requires c =

@@ -1,4 +1,5 @@
-use Rattle.std.proofs.Common.{rules, ◌≡◌, ◌+◌, ap, sym, subst, arith, ℕ, List, Err}
+use Rattle.std.proofs.Common.{rules, ◌≡◌, ◌+◌, ◌∙◌, ◌++◌, ◌∷◌, [], ap, sym, subst, arith, ℕ, List, Err}
+use Rattle.h5w_flush_laws.proofs.NewChunkLemmas.{same_len}
 use Rattle.h5w_space.specs.Space.{Space}
 use Rattle.h5w_cache.specs.declared.plan.PlanError.TheVariants.{Full as Full_}
 use Rattle.h5w_chunks.specs.Grids.{dataset_of}
@@ -8,8 +9,8 @@ use Rattle.h5w_packing.specs.declared.job.Copied.{Copied}
 use Rattle.h5w_packing.proofs.PlaceLemmas.{IsHalfway, halfway_absent, halfway_chunks, halfway_full, halfway_limit, halfway_named, halfway_space, halfway_start, halfway_there, halfway_tight}
 use Rattle.h5w_model.specs.Datasets.{Described}
 use Rattle.h5w_index.specs.declared.index.Index.{Index}
-use Rattle.h5w_packing.proofs.planning.place_chunks.Goals as goal
-use Rattle.h5w_packing.proofs.planning.place_chunks.Goals.{then-from+in_ok-to+in_ok-keep, else-from}
+use Rattle.h5w_packing.proofs.placing.place_chunks.Goals as goal
+use Rattle.h5w_packing.proofs.placing.place_chunks.Goals.{then-from+in_ok-to+in_ok-keep, else-from}
 
 moved_on : (d : Described) (table : List ℕ) (s : Space) (u : IndexView) (n : ℕ) (places : Space) (index : Index) (chunks : List Copied) (t : Space) (next : Index) (others : List Copied) → places ≡ t → index ≡ next → chunks ≡ others
     → IsHalfway d table s u (n + 1) t (view_of next) others → IsHalfway d table s u (n + 1) places (view_of index) chunks
@@ -60,7 +61,7 @@ loop-number-preserved c =
       | then-from+in_ok-to+in_ok-keep w ↦
           let e = w.in_ok-to.ensures in
           let next = halfway_there d table s u n old v chunks h w.place_chunk.new.places (view_of w.place_chunk.new.index) w.in_ok-to.to w.keep.new.chunks.items c.requires.limit c.loop-number-test.true w.if-from.true e.sound e.takes e.kind e.place e.places e.fits e.named
-          w.in_ok-keep.ensures in
+          (w.in_ok-keep.ensures ∙ ap (λ (k : ℕ). chunks ++ record { from = _; to = w.in_ok-to.to; len = k } ∷ []) (w.chunk_len-len.ensures.exact ∙ same_len d)) in
           moved_on d table s u n c.if-from.places c.if-from.index c.if-from.chunks.items w.place_chunk.new.places w.place_chunk.new.index w.keep.new.chunks.items w.places-is w.index-is (ap (λ v. v.items) w.chunks-is) next
       | else-from w ↦
           moved_on d table s u n c.if-from.places c.if-from.index c.if-from.chunks.items old c.loop-number.index chunks w.places-is w.index-is (ap (λ v. v.items) w.chunks-is) (halfway_absent d table s u n old v chunks h c.loop-number-test.true w.if-from.false)

@@ -4,7 +4,7 @@ use Rattle.h5w_index.specs.Held.{view_of}
 use Rattle.h5w_index.specs.Steps.{HasNoPlace}
 use Rattle.h5w_index.proofs.BegunLemmas.{was_begun}
 use Rattle.h5w_packing.proofs.ResultLemmas.{full_of}
-use Rattle.h5w_packing.proofs.planning.settle.Goals as goal
+use Rattle.h5w_packing.proofs.placing.settle.Goals as goal
 
 pub finish-plan-requires-clause-begun : goal.finish-plan-requires-clause-begun
 finish-plan-requires-clause-begun c = was_begun (view_of c.place_chunks.new.index) c.place_chunks.new.places c.in_ok-begun.begun c.begin.new.places c.in_ok-begun.ensures.begun
