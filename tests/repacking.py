@@ -1,5 +1,6 @@
 """Files written anew by `repack`: of h5py and of the program, with what h5diff, h5dump, h5py, `check` and `poll` find in the new file beside the
-old one, and that its ranges follow one another from 0 to its end."""
+old one, and that its ranges follow one another from 0 to its end. And each valid closed file that any other trial leaves."""
+import itertools
 import os
 import re
 
@@ -42,9 +43,9 @@ def ranges_of(told):
     return [[int(it) for it in line.split(" ")[1:]] for line in told.splitlines() if line.startswith("range ")]
 
 
-def packed(file, to, name):
-    """What is otherwise than it should be once a dataset was written anew."""
-    words = ["--name", name]
+def packed(file, to, *names):
+    """What is otherwise than it should be once these datasets were written anew, in this order."""
+    words = ["--name", ",".join(names)]
     told = run([PROGRAM, "repack", file, to, *words, "--ranges"])
     ended = re.search(r"^repack end (\d+) blocks (\d+) chunks (\d+)\n\Z", told, re.M)
     if not ended:
@@ -56,12 +57,15 @@ def packed(file, to, name):
         found += of("a range's place", at, place)
         place = at + length
     found += of("the end", [end, place], [os.path.getsize(to)] * 2)
-    rows = facts(to, name)[1][0]
-    found += of("check", run([PROGRAM, "check", to, *words]), f"valid rows {rows} chunks {chunks} blocks {blocks} end {end} lost 0\n")
-    if rows:  # h5diff compares no datasets without values
-        found += of("h5diff", run(["h5diff", file, to, f"/{name}", f"/{name}"]), "")
-    found += of("h5py", facts(to, name), facts(file, name))
-    found += of("poll", run([PROGRAM, "poll", to, *words, "--values"]), run([PROGRAM, "poll", file, *words, "--values"]))
+    rows = {name: facts(to, name)[1][0] for name in names}
+    numbers = " ".join(str(rows[it]) for it in names)
+    found += of("check", run([PROGRAM, "check", to, *words]), f"valid rows {numbers} chunks {chunks} blocks {blocks} end {end} lost 0\n")
+    for name in names:
+        if rows[name]:  # h5diff compares no datasets without values
+            found += of(f"h5diff of {name}", run(["h5diff", file, to, f"/{name}", f"/{name}"]), "")
+        found += of(f"h5py of {name}", facts(to, name), facts(file, name))
+        polled = [run([PROGRAM, "poll", it, "--name", name, "--values"]) for it in (to, file)]
+        found += of(f"poll of {name}", polled[0], polled[1])
     found += of("the same again", run([PROGRAM, "repack", file, to, *words]), "status 3: error exists\n")
     return found
 
@@ -96,6 +100,95 @@ def of_two(folder):
     return found
 
 
+def of_several(folder, names):
+    """Datasets of a file all at once, in two orders, without one, and the new file once more."""
+    file, first = f"{folder}/f.h5", names[0]
+    with h5py.File(file, "w", libver="latest") as opened:
+        for name in names:
+            make(opened, name, *SETS[f"a {name.replace('_', ' ')} with holes"])
+    found = packed(file, f"{folder}/g.h5", *names) + packed(file, f"{folder}/h.h5", *reversed(names)) + packed(file, f"{folder}/one.h5", *names[1:])
+    found += packed(f"{folder}/g.h5", f"{folder}/again.h5", *reversed(names))
+    found += of("the new file written anew again", read(f"{folder}/again.h5"), read(f"{folder}/h.h5"))
+    with h5py.File(file, "r+", libver="latest") as opened:
+        opened["twice"] = opened[first]
+        place = h5py.h5o.get_info(opened[first].id).addr
+    words = [PROGRAM, "repack", file, f"{folder}/never.h5", "--name", ",".join([*names, "twice"])]
+    found += of("one dataset under two names", run(words), f"status 5: finding 21 {place}\n")
+    found += [] if not os.path.exists(f"{folder}/never.h5") else ["a new file of one dataset under two names"]
+    return found + grown(f"{folder}/g.h5", names[-1])
+
+
+def read(path):
+    with open(path, "rb") as file:
+        return file.read()
+
+
+# ---- Each file that another trial leaves
+
+
+def wholes(file):
+    """The names of datasets of a closed file that `check` finds valid, each by itself, but for those with attributes: these are not written
+    anew, and h5diff compares them too. Of names that hold a comma no list is made."""
+    try:
+        with h5py.File(file, "r") as opened:
+            links = [it for it in opened if isinstance(opened.get(it, getlink=True), h5py.HardLink) and "," not in it]
+            names = [it for it in links if isinstance(opened[it], h5py.Dataset) and not len(opened[it].attrs)]
+    except (OSError, KeyError, UnicodeError):
+        return []
+    return [it for it in names if run([PROGRAM, "check", file, "--name", it]).startswith("valid ")]
+
+
+def one_by_one(file, names):
+    """The names but those that lead to the dataset of an earlier one, 8 of them at most."""
+    places = {}
+    with h5py.File(file, "r") as opened:
+        for it in names:
+            places.setdefault(h5py.h5o.get_info(opened[it].id).addr, it)
+    return list(places.values())[:8]
+
+
+def is_closed(file):
+    head = read(file)[:12]
+    return head[:4] == b"\x89HDF" and (head[8] == 2 or not head[11] & 5)
+
+
+def differs(file, to, name):
+    """What h5diff and h5py find otherwise in a dataset of the new file; chunks past the rows are not written anew."""
+    old, new = facts(file, name), facts(to, name)
+    found = of(f"h5py of {name}", new[:-1], old[:-1])
+    compared = new[1][0] and new[-1]  # h5diff compares no datasets without rows, nor without chunks
+    return found + (of(f"h5diff of {name}", run(["h5diff", file, to, f"/{name}", f"/{name}"]), "") if compared else [])
+
+
+def anew(file, to):
+    """What is otherwise than it should be once all of a file's datasets were written anew, if it is valid and closed."""
+    names = wholes(file) if is_closed(file) else []
+    if not names:
+        return []
+    names = one_by_one(file, names)
+    words = ["--name", ",".join(names)]
+    told, checked = run([PROGRAM, "repack", file, to, *words]), run([PROGRAM, "check", to, *words])
+    ended = re.fullmatch(r"repack end (\d+) blocks (\d+) chunks (\d+)\n", told)
+    if not ended:
+        return of(f"repack of {names}", told, run([PROGRAM, "check", file, *words]))
+    rows = " ".join(str(facts(to, it)[1][0]) for it in names)
+    end, blocks, chunks = ended.groups()
+    found = of("check of the new file", checked, f"valid rows {rows} chunks {chunks} blocks {blocks} end {end} lost 0\n")
+    return found + list(itertools.chain.from_iterable(differs(file, to, it) for it in names))
+
+
+def all_anew(folder):
+    """What is otherwise than it should be once each valid closed file of a folder was written anew."""
+    found = []
+    for at, _, files in sorted(os.walk(folder)):
+        for it in sorted(files):
+            file, to = f"{at}/{it}", f"{folder}/written anew"
+            found += [f"{it} written anew: {told}" for told in anew(file, to)]
+            if os.path.exists(to):
+                os.remove(to)
+    return found
+
+
 def of_program(folder, options):
     """A file of the program with places that nothing uses: each flush copies blocks, and none is used again."""
     file, to = f"{folder}/f.h5", f"{folder}/g.h5"
@@ -110,5 +203,7 @@ def trials():
     for it in SETS:
         yield f"repack of {it} of h5py", lambda folder, it=it: of_library(folder, it)
     yield "repack of each of two datasets of h5py", of_two
+    for names in (("line", "wide_table"), ("wide_table", "fixed_table", "line")):
+        yield f"repack of {len(names)} datasets of h5py at once", lambda folder, it=names: of_several(folder, it)
     for options in ([], ["--columns", "3", "--width", "2"], ["--columns", "3", "--width", "2", "--fixed"]):
         yield f"repack of a file of the program {' '.join(options)}".rstrip(), lambda folder, it=options: of_program(folder, it)

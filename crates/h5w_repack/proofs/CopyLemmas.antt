@@ -1,5 +1,5 @@
 -- What the jobs of a planned file do, one after another.
-use Rattle.std.proofs.Common.{◌≡◌, ℕ, zero, suc, ◌+◌, ◌-◌, ◌<◌, ◌≤◌, min, List, [], ◌∷◌, ◌++◌, length, take, drop, map, Option, Some, None, refl, sym, ap, ap₂, ◌∙◌, subst, arith, append_assoc, append-nil, length-append}
+use Rattle.std.proofs.Common.{◌≡◌, ℕ, ◌+◌, ◌<◌, ◌≤◌, List, [], ◌∷◌, ◌++◌, length, drop, Option, Some, None, refl, sym, ap, ap₂, ◌∙◌, subst, arith, append_assoc, append-nil, length-append}
 use Rattle.std.specs.Prelude.{IfSome, OnErr, OnOk, Result, Err, Ok}
 use Rattle.std.specs.List.{All}
 use Rattle.std.proofs.lemmas.List.{map-append}
@@ -11,7 +11,7 @@ use Rattle.h5w_laws.proofs.LoweringLemmas.{length_range}
 use Rattle.h5w_image.specs.View.{GivesRange, ImageView, Looked, Same}
 use Rattle.h5w_looks.specs.Still.{IsStill}
 use Rattle.h5w_looks.proofs.ReadLemmas.{still_on}
-use Rattle.h5w_packing.specs.Jobs.{IsJobBehind, IsJobIn, first_job, place_of, size_of, write_of, writes_of}
+use Rattle.h5w_packing.specs.Jobs.{IsJobBehind, IsJobIn, first_job, place_of, write_of, writes_of}
 use Rattle.h5w_packing.specs.declared.job.Job.{Job}
 use Rattle.h5w_packing.specs.declared.job.Job.TheVariants.{Chunk, Block}
 use Rattle.h5w_repack.specs.Pairs.{PairView, PutsOne}

@@ -1,28 +1,27 @@
 -- What is left of a new file that is not whole, and what one is that is.
-use Rattle.std.proofs.Common.{◌≡◌, inl, inr, ℕ, ◌≤◌, List, [], ◌++◌, Option, Some, None, refl, sym, ap, ◌∙◌, subst, arith}
-use Rattle.std.specs.Prelude.{IfSome, Result, Err, ◌⊎◌, option_map}
-use Rattle.std.proofs.lemmas.List.Elements.{All-nil, All-weaker}
+use Rattle.std.proofs.Common.{◌≡◌, inl, inr, ℕ, ◌≤◌, List, [], Option, Some, None, refl, sym, ap, ◌∙◌, subst, arith}
+use Rattle.std.specs.Prelude.{IfSome, length, map, ◌∷◌, Result, Err, ◌⊎◌, option_map}
+use Rattle.std.specs.List.{All, AllByRecursion}
+use Rattle.std.proofs.lemmas.List.{length-map}
+use Rattle.std.proofs.lemmas.List.Elements.{All-cons, All-nil, All-weaker}
 use Rattle.h5w_model.specs.Images.{image}
 use Rattle.h5w_model.specs.Tables.{format_limits}
 use Rattle.h5w_model.specs.declared.piece.Write.{Write}
 use Rattle.h5w_creation_laws.proofs.BornLemmas.{born}
 use Rattle.h5w_image.specs.View.{ImageView, Wrote}
-use Rattle.h5w_model.specs.Datasets.{Described}
-use Rattle.h5w_model.specs.Tables.{Reading}
-use Rattle.h5w_chunks.specs.Grids.{dataset_of}
 use Rattle.h5w_looks.specs.Still.{IsStill}
 use Rattle.h5w_space.specs.declared.Full.{Full}
 use Rattle.h5w_packing.specs.Jobs.{PackingView, writes_of}
-use Rattle.h5w_packing.specs.Plans.{IsOut, IsPlanned}
+use Rattle.h5w_packing.specs.Plans.{IsOut, IsPlanned, wanted_of}
+use Rattle.h5w_packing.specs.SoFar.{AreSources, IsSource}
 use Rattle.h5w_packing.proofs.WholeLemmas.{packed_whole}
 use Rattle.h5w_cache.specs.declared.plan.PlanError.{PlanError}
 use Rattle.h5w_cache.specs.declared.plan.PlanError.TheVariants as plans
-use Rattle.h5w_survey.specs.Surveys.{IsSurveyOf}
-use Rattle.h5w_survey.specs.declared.error.SurveyError.TheVariants as surveys
-use Rattle.h5w_survey.specs.declared.surveying.Surveyed.{Surveyed}
+use Rattle.h5w_survey.specs.Surveys.{IsSurvey, IsSurveyOf, IsSurveyed}
+use Rattle.h5w_packing.specs.declared.source.Source.{Source}
 use Rattle.h5w_repack.specs.Copies.{AreBehind, AreDone}
 use Rattle.h5w_repack.specs.Errors.{of_copy, of_plan}
-use Rattle.h5w_repack.specs.Packed.{IsNoFile, IsNotPacked, IsOutOf, IsPacked, MayBeLate}
+use Rattle.h5w_repack.specs.Packed.{ArePacks, IsNoFile, IsNotPacked, IsOutOf, IsPacked, MayBeLate}
 use Rattle.h5w_repack.specs.Pairs.{PairView}
 use Rattle.h5w_repack.specs.declared.error.CopyError.{CopyError}
 use Rattle.h5w_repack.specs.declared.error.CopyError.TheVariants as copies
@@ -56,45 +55,54 @@ unborn_bytes u v ws b empty behind wrote is = subst IsNoFile (sym (written_bytes
 -- ---- All is done
 
 -- what was surveyed, planned and done is packed
-pub packed_by : (img name : List ℕ) (limit : ℕ) (s : Surveyed) (p : PackingView) (u v : PairView) (to : List ℕ) → IsStill u.from img → IsSurveyOf img name s → IsPlanned name (dataset_of s.grid) s.table.items limit p
-    → AreDone p.left u v → to ≡ image [] (writes_of img p.left) → IsPacked img name limit p.ranges to
-packed_by img name limit s p u v to still found planned done is =
-    let r : Reading = found.shown in
-    let plan : IsPlanned name r.dataset r.table limit p = subst (λ (t : List ℕ). IsPlanned name r.dataset t limit p) found.table (subst (λ (d : Described). IsPlanned name d s.table.items limit p) found.dataset planned) in
-    record {
-      source = r;
-      file = found.file;
-      packing = p;
-      planned = plan;
-      ranges_are = refl;
-      packed = packed_whole img name found.file.valid.0 r limit p to still.short found.file.valid.1 found.file.shows plan is;
-    }
-
--- the pieces that were written are those of the plan
-pub writes_are : (img name : List ℕ) (limit : ℕ) (s : Surveyed) (p : PackingView) (u v : PairView) → IsStill u.from img → IsSurveyOf img name s → IsPlanned name (dataset_of s.grid) s.table.items limit p → (done : AreDone p.left u v)
-    → done.writes ≡ writes_of img p.left
-writes_are img name limit s p u v still found planned done =
-    let r : Reading = found.shown in
-    let plan : IsPlanned name r.dataset r.table limit p = subst (λ (t : List ℕ). IsPlanned name r.dataset t limit p) found.table (subst (λ (d : Described). IsPlanned name d s.table.items limit p) found.dataset planned) in
-    done.are img still (jobs_inside img name found.file.valid.0 r limit p found.file.valid.1 found.file.shows plan)
-
--- a range that would end past the limit
-pub out_by : (img name : List ℕ) (limit : ℕ) (s : Surveyed) (full : Full) → IsSurveyOf img name s → IsOut name (dataset_of s.grid) s.table.items limit full → IsOutOf img name limit full
-out_by img name limit s full found out = record {
+pub packed_by : (img : List ℕ) (names : List (List ℕ)) (limit : ℕ) (ss : List Source) (p : PackingView) (u v : PairView) (to : List ℕ) → IsStill u.from img → IsSurveyOf img names ss → IsPlanned (map wanted_of ss) limit p
+    → AreDone p.left u v → to ≡ image [] (writes_of img p.left) → IsPacked img names limit p.ranges to
+packed_by img names limit ss p u v to still found planned done is = record {
   source = found.shown;
   file = found.file;
-  out = subst (λ (t : List ℕ). IsOut name found.shown.dataset t limit full) found.table (subst (λ (d : Described). IsOut name d s.table.items limit full) found.dataset out);
+  wanted = map wanted_of ss;
+  are = found.are;
+  packing = p;
+  planned = planned;
+  ranges_are = refl;
+  packed = packed_whole img names found.file.valid.0 found.shown (map wanted_of ss) limit p to still.short found.file.valid.1 found.file.shows found.are planned is;
 }
 
-pub copy_error : (img name : List ℕ) (limit : ℕ) (e : CopyError) → IsNotPacked img name limit (of_copy e)
-copy_error img name limit copies.From = tt
-copy_error img name limit copies.To = tt
-copy_error img name limit copies.OutOfMemory = tt
+-- the pieces that were written are those of the plan
+pub writes_are : (img : List ℕ) (names : List (List ℕ)) (limit : ℕ) (ss : List Source) (p : PackingView) (u v : PairView) → IsStill u.from img → IsSurveyOf img names ss → IsPlanned (map wanted_of ss) limit p → (done : AreDone p.left u v)
+    → done.writes ≡ writes_of img p.left
+writes_are img names limit ss p u v still found planned done =
+    done.are img still (jobs_inside img names found.file.valid.0 found.shown (map wanted_of ss) limit p found.file.valid.1 found.file.shows found.are planned)
+
+-- a range that would end past the limit
+pub out_by : (img : List ℕ) (names : List (List ℕ)) (limit : ℕ) (ss : List Source) (full : Full) → IsSurveyOf img names ss → IsOut (map wanted_of ss) limit full → IsOutOf img names limit full
+out_by img names limit ss full found out = record { source = found.shown; file = found.file; wanted = map wanted_of ss; are = found.are; out = out }
+
+-- what a survey found can be planned
+sources_each : (names : List (List ℕ)) (ss : List Source) → map (λ (s : Source). s.name) ss ≡ names → AllByRecursion IsSurveyed ss → AllByRecursion (λ (name : List ℕ). length name ≤ 255) names → All IsSource ss
+sources_each names ss e h short = go ss h (subst (λ (ns : List (List ℕ)). AllByRecursion (λ (name : List ℕ). length name ≤ 255) ns) (sym e) short)
+  where
+    go : (ss : List Source) → AllByRecursion IsSurveyed ss → AllByRecursion (λ (name : List ℕ). length name ≤ 255) (map (λ (s : Source). s.name) ss) → All IsSource ss
+    go [] h short = All-nil IsSource
+    go (s ∷ ss) h short = All-cons IsSource s ss (record { grid = (h.0).grid; listed = (h.0).listed; few = (h.0).few; named = short.0 }) (go ss h.1 short.1)
+
+pub names_count : (names : List (List ℕ)) (ss : List Source) → IsSurvey names ss → length ss ≡ length names
+names_count names ss h = sym (length-map ss (λ (s : Source). s.name)) ∙ ap length h.named
+
+pub are_sources : (names : List (List ℕ)) (ss : List Source) → ArePacks names → IsSurvey names ss → AreSources ss
+are_sources names ss a h =
+    let count = names_count names ss h in
+    record { some = omega (arith, count, a.some); few = omega (arith, count, a.few); each = sources_each names ss h.named h.each a.each }
+
+pub copy_error : (img : List ℕ) (names : List (List ℕ)) (limit : ℕ) (e : CopyError) → IsNotPacked img names limit (of_copy e)
+copy_error img names limit copies.From = tt
+copy_error img names limit copies.To = tt
+copy_error img names limit copies.OutOfMemory = tt
 
 -- an error of the plan
-pub plan_error : (img name : List ℕ) (limit : ℕ) (e : PlanError) → ((full : Full) → e ≡ plans.Full full → IsOutOf img name limit full) → IsNotPacked img name limit (of_plan e)
-plan_error img name limit (plans.Full full) h = h full refl
-plan_error img name limit plans.OutOfMemory h = tt
+pub plan_error : (img : List ℕ) (names : List (List ℕ)) (limit : ℕ) (e : PlanError) → ((full : Full) → e ≡ plans.Full full → IsOutOf img names limit full) → IsNotPacked img names limit (of_plan e)
+plan_error img names limit (plans.Full full) h = h full refl
+plan_error img names limit plans.OutOfMemory h = tt
 
 -- ---- The new file as an image alone
 

@@ -1,7 +1,6 @@
 -- What the copying of a planned file does to a source and a new file.
 use Rattle.std.specs.Prelude.{◌≡◌, ℕ, ◌+◌, ◌≤◌, List, [], ◌∷◌, length, map, option_map}
 use Rattle.std.specs.List.{All}
-use Rattle.h5w_model.specs.Numbers.{range}
 use Rattle.h5w_model.specs.declared.piece.Write.{Write}
 use Rattle.h5w_image.specs.View.{DiskState, Looked, Wrote, put}
 use Rattle.h5w_looks.specs.Still.{IsStill}

@@ -20,7 +20,8 @@ use Rattle.h5w_survey.specs.Steps.{Says, SurveyStep}
 use Rattle.h5w_survey.specs.Surveys.{IsRefusedFor, IsSurvey, IsSurveyOf}
 use Rattle.h5w_survey.specs.declared.error.SurveyError.{SurveyError}
 use Rattle.h5w_survey.specs.declared.error.SurveyError.TheVariants as surveys
-use Rattle.h5w_survey.specs.declared.surveying.Surveyed.{Surveyed}
+use Rattle.std.specs.Global.{Vec}
+use Rattle.h5w_packing.specs.declared.source.Source.{Source}
 use Rattle.h5w_repack.specs.Copies.{put_each}
 use Rattle.h5w_repacking.specs.Repacks.{HasNew, HasPut, IsOfSurvey, SurveyedBy, SurveysTo, line_of_survey, with_new}
 
@@ -29,19 +30,19 @@ use Rattle.h5w_repacking.specs.Repacks.{HasNew, HasPut, IsOfSurvey, SurveyedBy, 
 rose_from : (a b c : ℕ) → a ≤ b → Rose b c → Rose a c
 rose_from a b c low rose = omega arith
 
-abbrev lined : Result Surveyed SurveyError → Result Surveyed ErrorLine
+abbrev lined : Result (Vec Source) SurveyError → Result (Vec Source) ErrorLine
 lined (Ok s) = Ok s
 lined (Err e) = Err (line_of_survey e)
 
-said_by : (img name : List ℕ) (answer : Result Surveyed SurveyError) → length img < 2 ^ 64 → Says (IsSurveyOf img name) (IsRefusedFor img name) answer → SurveyedBy name (Some img) (lined answer)
-said_by img name (Ok s) short h = (h, short)
-said_by img name (Err (surveys.Finding kind at)) short h = h
-said_by img name (Err (surveys.Overlap at len other other_len)) short h = h
-said_by img name (Err (surveys.Flags flags)) short h = h
-said_by img name (Err surveys.Failed) short h = tt
-said_by img name (Err surveys.OutOfMemory) short h = tt
+said_by : (img : List ℕ) (names : List (List ℕ)) (answer : Result (Vec Source) SurveyError) → length img < 2 ^ 64 → Says (λ (s : Vec Source). IsSurveyOf img names s.items) (IsRefusedFor img names) answer → SurveyedBy names (Some img) (lined answer)
+said_by img names (Ok s) short h = (h, short)
+said_by img names (Err (surveys.Finding kind at)) short h = h
+said_by img names (Err (surveys.Overlap at len other other_len)) short h = h
+said_by img names (Err (surveys.Flags flags)) short h = h
+said_by img names (Err surveys.Failed) short h = tt
+said_by img names (Err surveys.OutOfMemory) short h = tt
 
-kinds_of : (answer : Result Surveyed SurveyError) → IsOfSurvey (lined answer)
+kinds_of : (answer : Result (Vec Source) SurveyError) → IsOfSurvey (lined answer)
 kinds_of (Ok s) = tt
 kinds_of (Err (surveys.Finding kind at)) = tt
 kinds_of (Err (surveys.Overlap at len other other_len)) = tt
@@ -49,7 +50,7 @@ kinds_of (Err (surveys.Flags flags)) = tt
 kinds_of (Err surveys.Failed) = tt
 kinds_of (Err surveys.OutOfMemory) = tt
 
-failed_of : (answer : Result Surveyed SurveyError) → lined answer ≡ Err errors.Disk → answer ≡ Err surveys.Failed
+failed_of : (answer : Result (Vec Source) SurveyError) → lined answer ≡ Err errors.Disk → answer ≡ Err surveys.Failed
 failed_of (Ok s) e = cc
 failed_of (Err (surveys.Finding kind at)) e = cc
 failed_of (Err (surveys.Overlap at len other other_len)) e = cc
@@ -57,23 +58,23 @@ failed_of (Err (surveys.Flags flags)) e = cc
 failed_of (Err surveys.Failed) e = refl
 failed_of (Err surveys.OutOfMemory) e = cc
 
-sound_of : (answer : Result Surveyed SurveyError) → IfOk answer IsSurvey → IfOk (lined answer) IsSurvey
-sound_of (Ok s) h = h
-sound_of (Err e) h = tt
+sound_of : (names : List (List ℕ)) (answer : Result (Vec Source) SurveyError) → IfOk answer (λ s. IsSurvey names s.items) → IfOk (lined answer) (λ s. IsSurvey names s.items)
+sound_of names (Ok s) h = h
+sound_of names (Err e) h = tt
 
-on_ok : (answer : Result Surveyed ErrorLine) {P : Type 0} → P → OnOk answer P
+on_ok : (answer : Result (Vec Source) ErrorLine) {P : Type 0} → P → OnOk answer P
 on_ok (Ok s) p = p
 on_ok (Err e) p = tt
 
 -- by the survey of the image that the file is
-pub surveys_by : {u v w : DiskView} (r q n : ℕ) (file_name other name : List ℕ) (answer : Result Surveyed SurveyError) → n < 2 ^ 64 → Leaves 0 u.told u v → IfSome u.told (λ d. Some n ≡ option_map length (file d file_name)) → IsThere v file_name
-    → SurveyStep (file_image r file_name v) (file_image q other w) (λ img s. IsSurveyOf img name s) (λ img e. IsRefusedFor img name e) answer → IfOk answer IsSurvey → SurveysTo file_name name u w (lined answer)
-surveys_by {u} {v} {w} r q n file_name other name answer low p sized there step sound =
+pub surveys_by : {u v w : DiskView} (r q n : ℕ) (file_name other : List ℕ) (names : List (List ℕ)) (answer : Result (Vec Source) SurveyError) → n < 2 ^ 64 → Leaves 0 u.told u v → IfSome u.told (λ d. Some n ≡ option_map length (file d file_name)) → IsThere v file_name
+    → SurveyStep (file_image r file_name v) (file_image q other w) (λ img s. IsSurveyOf img names s.items) (λ img e. IsRefusedFor img names e) answer → IfOk answer (λ s. IsSurvey names s.items) → SurveysTo file_name names u w (lined answer)
+surveys_by {u} {v} {w} r q n file_name other names answer low p sized there step sound =
     let left : LeavesFiles v.told v w = looked_files r q file_name other step.looked in
     record {
       disk = leaves_on (leaves_files 0 u.told p) left;
       there = on_ok (lined answer) (subst (λ t. IfSome t (λ d. IsSome (file d file_name))) (sym left.told) there);
-      sound = sound_of answer sound;
+      sound = sound_of names answer sound;
       kinds = kinds_of answer;
       exact = told u.told p.told sized;
       cause = λ e. rose_from u.faults v.faults w.faults p.faults (step.cause (failed_of answer e));
@@ -85,13 +86,13 @@ surveys_by {u} {v} {w} r q n file_name other name answer low p sized there step 
     of_none : (o : Option (List ℕ)) → o ≡ None → Some n ≡ option_map length o → ⊥
     of_none o e s = let is : ◌≡◌ {A = Option ℕ} (Some n) None = s ∙ ap (option_map length) e in cc
 
-    by_bytes : (t : Option DiskState) (d : DiskState) → v.told ≡ Some d → (o : Option (List ℕ)) → file d file_name ≡ o → Some n ≡ option_map length (file d file_name) → SurveyedBy name o (lined answer)
+    by_bytes : (t : Option DiskState) (d : DiskState) → v.told ≡ Some d → (o : Option (List ℕ)) → file d file_name ≡ o → Some n ≡ option_map length (file d file_name) → SurveyedBy names o (lined answer)
     by_bytes t d e None f s = absurd (of_none (file d file_name) f s)
     by_bytes t d e (Some img) f s =
         let short = short_of (file d file_name) img f s in
-        said_by img name answer short (step.exact img (record { told = ap (λ x. told_bytes x file_name) e ∙ f; alone = refl; short = short }))
+        said_by img names answer short (step.exact img (record { told = ap (λ x. told_bytes x file_name) e ∙ f; alone = refl; short = short }))
 
-    told : (t : Option DiskState) → v.told ≡ t → IfSome t (λ d. Some n ≡ option_map length (file d file_name)) → IfSome t (λ d. SurveyedBy name (file d file_name) (lined answer))
+    told : (t : Option DiskState) → v.told ≡ t → IfSome t (λ d. Some n ≡ option_map length (file d file_name)) → IfSome t (λ d. SurveyedBy names (file d file_name) (lined answer))
     told None e s = tt
     told (Some d) e s = by_bytes (Some d) d e (file d file_name) refl s
 

@@ -1,9 +1,9 @@
--- What the writing of a dataset into a new file tells, and what it leaves.
+-- What the writing of datasets into a new file tells, and what it leaves.
 use Rattle.std.specs.Prelude.{◌≡◌, ◌⊎◌, ℕ, ◌^◌, ◌<◌, ◌==◌, Bool, not, length, List, [], ◌∷◌, ◌++◌, codes, count_by, flat_map, map, if◌then◌else◌, Option, Some, None, IfOk, IfSome, OnOk, Result, Ok, Err, option_map}
 use Rattle.std.specs.FinMap as finite
 use Rattle.std.specs.List.{All}
 use Rattle.h5w_model.specs.Causes.{Rose}
-use Rattle.h5w_model.specs.Findings.{Finds, found, overlap}
+use Rattle.h5w_model.specs.Findings.{AllFinds, found, overlap}
 use Rattle.h5w_model.specs.Tables.{Reading}
 use Rattle.h5w_model.specs.Tiles.{TileFields}
 use Rattle.h5w_model.specs.declared.piece.Write.{Write}
@@ -21,14 +21,14 @@ use Rattle.h5w_text.specs.declared.status.Status.{Status}
 use Rattle.h5w_text.specs.declared.status.Status.TheVariants as statuses
 use Rattle.h5w_files.specs.Images.{LeavesFiles, told_bytes}
 use Rattle.h5w_files.specs.Ends.{EndsBy}
-use Rattle.h5w_chunks.specs.Grids.{dataset_of}
+use Rattle.std.specs.Global.{Vec}
 use Rattle.h5w_packing.specs.Jobs.{IsPrepared, PackingView, writes_of}
-use Rattle.h5w_packing.specs.Plans.{IsOut, IsPlanned}
+use Rattle.h5w_packing.specs.Plans.{IsOut, IsPlanned, wanted_of}
+use Rattle.h5w_packing.specs.declared.source.Source.{Source}
 use Rattle.h5w_packing.specs.declared.job.Job.{Job}
 use Rattle.h5w_survey.specs.Surveys.{IsClosedFile, IsOpenFile, IsSurvey, IsSurveyOf}
 use Rattle.h5w_survey.specs.declared.error.SurveyError.{SurveyError}
 use Rattle.h5w_survey.specs.declared.error.SurveyError.TheVariants as surveys
-use Rattle.h5w_survey.specs.declared.surveying.Surveyed.{Surveyed}
 use Rattle.h5w_repack.specs.Copies.{AreBehind, IsInside, put_each}
 use Rattle.h5w_repack.specs.Packed.{IsNoFile, IsOutOf, IsPacked}
 use Rattle.h5w_repack.specs.declared.error.CopyError.{CopyError}
@@ -105,70 +105,70 @@ OfBytes None P = ⊥
 OfBytes (Some img) P = P img
 
 -- The new file is what packs the source, and ends where it is said.
-pub record HasPacked (file_name name : List ℕ) (limit : ℕ) (to : List ℕ) (p : PackedFile) (v w : DiskView) : Type 0 where
+pub record HasPacked (file_name : List ℕ) (names : List (List ℕ)) (limit : ℕ) (to : List ℕ) (p : PackedFile) (v w : DiskView) : Type 0 where
   pub bytes : List ℕ
   pub new : HasNew to bytes v w
-  pub packed : IfSome v.told (λ d. OfBytes (file d file_name) (λ img. IsPacked img name limit p.ranges bytes × (p.end ≡ length bytes)))
+  pub packed : IfSome v.told (λ d. OfBytes (file d file_name) (λ img. IsPacked img names limit p.ranges bytes × (p.end ≡ length bytes)))
 
 -- By the answer: the new file; nothing changed where the source is refused or the new file's name is taken; an empty new file where there
 -- is no space; where the disk failed, or memory is wanting, nothing changed, or the new file is no file yet.
 -- There is no other answer.
-abbrev pub RepackLeaves : List ℕ → List ℕ → ℕ → List ℕ → DiskView → DiskView → Result PackedFile ErrorLine → Type 0
-RepackLeaves file_name name limit to v w (Ok p) = HasPacked file_name name limit to p v w
-RepackLeaves file_name name limit to v w (Err errors.Missing) = LeavesFiles v.told v w
-RepackLeaves file_name name limit to v w (Err (errors.Finding kind at)) = LeavesFiles v.told v w
-RepackLeaves file_name name limit to v w (Err (errors.Overlap at len other other_len)) = LeavesFiles v.told v w
-RepackLeaves file_name name limit to v w (Err (errors.Read e)) = LeavesFiles v.told v w
-RepackLeaves file_name name limit to v w (Err errors.Exists) = LeavesFiles v.told v w
-RepackLeaves file_name name limit to v w (Err (errors.FullSpace at size most)) = HasNew to [] v w
-RepackLeaves file_name name limit to v w (Err errors.Disk) = LeavesFiles v.told v w ⊎ HasUnborn to v w
-RepackLeaves file_name name limit to v w (Err errors.Memory) = LeavesFiles v.told v w ⊎ HasUnborn to v w
-RepackLeaves file_name name limit to v w (Err e) = ⊥
+abbrev pub RepackLeaves : List ℕ → List (List ℕ) → ℕ → List ℕ → DiskView → DiskView → Result PackedFile ErrorLine → Type 0
+RepackLeaves file_name names limit to v w (Ok p) = HasPacked file_name names limit to p v w
+RepackLeaves file_name names limit to v w (Err errors.Missing) = LeavesFiles v.told v w
+RepackLeaves file_name names limit to v w (Err (errors.Finding kind at)) = LeavesFiles v.told v w
+RepackLeaves file_name names limit to v w (Err (errors.Overlap at len other other_len)) = LeavesFiles v.told v w
+RepackLeaves file_name names limit to v w (Err (errors.Read e)) = LeavesFiles v.told v w
+RepackLeaves file_name names limit to v w (Err errors.Exists) = LeavesFiles v.told v w
+RepackLeaves file_name names limit to v w (Err (errors.FullSpace at size most)) = HasNew to [] v w
+RepackLeaves file_name names limit to v w (Err errors.Disk) = LeavesFiles v.told v w ⊎ HasUnborn to v w
+RepackLeaves file_name names limit to v w (Err errors.Memory) = LeavesFiles v.told v w ⊎ HasUnborn to v w
+RepackLeaves file_name names limit to v w (Err e) = ⊥
 
 -- ---- Its answer
 
 -- Why, by the bytes of the source and those of what has the new file's name: the first reason in the order tried.
-abbrev pub RefusedBy : List ℕ → ℕ → Option (List ℕ) → Option (List ℕ) → ErrorLine → Type 0
-RefusedBy name limit source target errors.Missing = source ≡ None
-RefusedBy name limit source target (errors.Finding kind at) = OfBytes source (λ img. Finds img name (found kind at))
-RefusedBy name limit source target (errors.Overlap at len other other_len) = OfBytes source (λ img. Finds img name (overlap at len other other_len))
-RefusedBy name limit source target (errors.Read (NotSwmr flags)) = OfBytes source (λ img. IsOpenFile img name flags)
-RefusedBy name limit source target errors.Exists = OfBytes target (λ b. OfBytes source (λ img. (s : Surveyed) × IsSurveyOf img name s))
-RefusedBy name limit source target (errors.FullSpace at size most) = (target ≡ None) × OfBytes source (λ img. IsOutOf img name limit (record { at = at; size = size; limit = most }))
-RefusedBy name limit source target errors.Disk = Unit {0}
-RefusedBy name limit source target errors.Memory = Unit {0}
-RefusedBy name limit source target e = ⊥
+abbrev pub RefusedBy : List (List ℕ) → ℕ → Option (List ℕ) → Option (List ℕ) → ErrorLine → Type 0
+RefusedBy names limit source target errors.Missing = source ≡ None
+RefusedBy names limit source target (errors.Finding kind at) = OfBytes source (λ img. AllFinds img names (found kind at))
+RefusedBy names limit source target (errors.Overlap at len other other_len) = OfBytes source (λ img. AllFinds img names (overlap at len other other_len))
+RefusedBy names limit source target (errors.Read (NotSwmr flags)) = OfBytes source (λ img. IsOpenFile img names flags)
+RefusedBy names limit source target errors.Exists = OfBytes target (λ b. OfBytes source (λ img. (s : List Source) × IsSurveyOf img names s))
+RefusedBy names limit source target (errors.FullSpace at size most) = (target ≡ None) × OfBytes source (λ img. IsOutOf img names limit (record { at = at; size = size; limit = most }))
+RefusedBy names limit source target errors.Disk = Unit {0}
+RefusedBy names limit source target errors.Memory = Unit {0}
+RefusedBy names limit source target e = ⊥
 
-abbrev pub AnsweredBy : List ℕ → ℕ → Option (List ℕ) → Option (List ℕ) → Result PackedFile ErrorLine → Type 0
-AnsweredBy name limit source target (Ok p) = target ≡ None
-AnsweredBy name limit source target (Err e) = RefusedBy name limit source target e
+abbrev pub AnsweredBy : List (List ℕ) → ℕ → Option (List ℕ) → Option (List ℕ) → Result PackedFile ErrorLine → Type 0
+AnsweredBy names limit source target (Ok p) = target ≡ None
+AnsweredBy names limit source target (Err e) = RefusedBy names limit source target e
 
 -- An answer between two states of a disk.
-pub record RepacksTo (file_name to name : List ℕ) (limit : ℕ) (v w : DiskView) (answer : Result PackedFile ErrorLine) : Type 0 where
-  pub leaves : RepackLeaves file_name name limit to v w answer
-  pub exact : IfSome v.told (λ d. AnsweredBy name limit (file d file_name) (file d to) answer)
+pub record RepacksTo (file_name to : List ℕ) (names : List (List ℕ)) (limit : ℕ) (v w : DiskView) (answer : Result PackedFile ErrorLine) : Type 0 where
+  pub leaves : RepackLeaves file_name names limit to v w answer
+  pub exact : IfSome v.told (λ d. AnsweredBy names limit (file d file_name) (file d to) answer)
   pub cause : answer ≡ Err errors.Disk → Rose v.faults w.faults
 
 -- how the writing of a dataset into a new file ends
-abbrev pub RepackEnds : List ℕ → List ℕ → List ℕ → ℕ → Bool → DiskView → DiskView → Status → SinkView → SinkView → Type 0
-RepackEnds file_name to name limit ranges v w status k l =
-    EndsBy {A = PackedFile} (λ answer text. RepacksTo file_name to name limit v w answer × (text ≡ repack_text ranges answer)) status k l
+abbrev pub RepackEnds : List ℕ → List ℕ → List (List ℕ) → ℕ → Bool → DiskView → DiskView → Status → SinkView → SinkView → Type 0
+RepackEnds file_name to names limit ranges v w status k l =
+    EndsBy {A = PackedFile} (λ answer text. RepacksTo file_name to names limit v w answer × (text ≡ repack_text ranges answer)) status k l
 
 -- ---- Its steps
 
 -- what a survey of the source's bytes answers
-abbrev pub SurveyedBy : List ℕ → Option (List ℕ) → Result Surveyed ErrorLine → Type 0
-SurveyedBy name source (Ok s) = OfBytes source (λ img. IsSurveyOf img name s × (length img < 2 ^ 64))
-SurveyedBy name source (Err errors.Missing) = source ≡ None
-SurveyedBy name source (Err (errors.Finding kind at)) = OfBytes source (λ img. Finds img name (found kind at))
-SurveyedBy name source (Err (errors.Overlap at len other other_len)) = OfBytes source (λ img. Finds img name (overlap at len other other_len))
-SurveyedBy name source (Err (errors.Read (NotSwmr flags))) = OfBytes source (λ img. IsOpenFile img name flags)
-SurveyedBy name source (Err errors.Disk) = Unit {0}
-SurveyedBy name source (Err errors.Memory) = Unit {0}
-SurveyedBy name source (Err e) = ⊥
+abbrev pub SurveyedBy : List (List ℕ) → Option (List ℕ) → Result (Vec Source) ErrorLine → Type 0
+SurveyedBy names source (Ok s) = OfBytes source (λ img. IsSurveyOf img names s.items × (length img < 2 ^ 64))
+SurveyedBy names source (Err errors.Missing) = source ≡ None
+SurveyedBy names source (Err (errors.Finding kind at)) = OfBytes source (λ img. AllFinds img names (found kind at))
+SurveyedBy names source (Err (errors.Overlap at len other other_len)) = OfBytes source (λ img. AllFinds img names (overlap at len other other_len))
+SurveyedBy names source (Err (errors.Read (NotSwmr flags))) = OfBytes source (λ img. IsOpenFile img names flags)
+SurveyedBy names source (Err errors.Disk) = Unit {0}
+SurveyedBy names source (Err errors.Memory) = Unit {0}
+SurveyedBy names source (Err e) = ⊥
 
 -- a survey, or one of its errors
-abbrev pub IsOfSurvey : Result Surveyed ErrorLine → Type 0
+abbrev pub IsOfSurvey : Result (Vec Source) ErrorLine → Type 0
 IsOfSurvey (Ok s) = Unit {0}
 IsOfSurvey (Err errors.Missing) = Unit {0}
 IsOfSurvey (Err (errors.Finding kind at)) = Unit {0}
@@ -178,12 +178,12 @@ IsOfSurvey (Err errors.Disk) = Unit {0}
 IsOfSurvey (Err errors.Memory) = Unit {0}
 IsOfSurvey (Err e) = ⊥
 
-pub record SurveysTo (file_name name : List ℕ) (v w : DiskView) (answer : Result Surveyed ErrorLine) : Type 0 where
+pub record SurveysTo (file_name : List ℕ) (names : List (List ℕ)) (v w : DiskView) (answer : Result (Vec Source) ErrorLine) : Type 0 where
   pub disk : LeavesFiles v.told v w
   pub there : OnOk answer (IsThere w file_name)
-  pub sound : IfOk answer IsSurvey
+  pub sound : IfOk answer (λ s. IsSurvey names s.items)
   pub kinds : IsOfSurvey answer
-  pub exact : IfSome v.told (λ d. SurveyedBy name (file d file_name) answer)
+  pub exact : IfSome v.told (λ d. SurveyedBy names (file d file_name) answer)
   pub cause : answer ≡ Err errors.Disk → Rose v.faults w.faults
 
 -- the new file is made, or its name is taken
@@ -222,67 +222,67 @@ CopiesTo file_name to left v w (Err errors.Memory) = LeavesFiles v.told v w
 CopiesTo file_name to left v w (Err e) = ⊥
 
 -- a plan of what was surveyed, or the first range that has no place
-abbrev pub PlansTo : Surveyed → List ℕ → ℕ → Result PackingView ErrorLine → Type 0
-PlansTo s name limit (Ok p) = IsPlanned name (dataset_of s.grid) s.table.items limit p × IsPrepared p
-PlansTo s name limit (Err (errors.FullSpace at size most)) = IsOut name (dataset_of s.grid) s.table.items limit (record { at = at; size = size; limit = most })
-PlansTo s name limit (Err errors.Memory) = Unit {0}
-PlansTo s name limit (Err e) = ⊥
+abbrev pub PlansTo : List Source → ℕ → Result PackingView ErrorLine → Type 0
+PlansTo s limit (Ok p) = IsPlanned (map wanted_of s) limit p × IsPrepared p
+PlansTo s limit (Err (errors.FullSpace at size most)) = IsOut (map wanted_of s) limit (record { at = at; size = size; limit = most })
+PlansTo s limit (Err errors.Memory) = Unit {0}
+PlansTo s limit (Err e) = ⊥
 
 -- A plan of what was surveyed was put into the new file, and this is told of it.
-pub record HasWritten (file_name to name : List ℕ) (limit : ℕ) (ranges : Bool) (s : Surveyed) (v w : DiskView) (text : List ℕ) : Type 0 where
+pub record HasWritten (file_name to : List ℕ) (limit : ℕ) (ranges : Bool) (s : List Source) (v w : DiskView) (text : List ℕ) : Type 0 where
   pub plan : PackingView
-  pub planned : IsPlanned name (dataset_of s.grid) s.table.items limit plan
+  pub planned : IsPlanned (map wanted_of s) limit plan
   pub copied : HasCopied file_name to plan.left v w
   pub text_is : text ≡ packed_text ranges plan.end plan.ranges
 
 -- from a new file without bytes on
-abbrev pub WritesTo : List ℕ → List ℕ → List ℕ → ℕ → Bool → Surveyed → DiskView → DiskView → List ℕ → Result (Unit {0}) ErrorLine → Type 0
-WritesTo file_name to name limit ranges s v w text (Ok a) = HasWritten file_name to name limit ranges s v w text
-WritesTo file_name to name limit ranges s v w text (Err (errors.FullSpace at size most)) =
-    LeavesFiles v.told v w × IsOut name (dataset_of s.grid) s.table.items limit (record { at = at; size = size; limit = most })
-WritesTo file_name to name limit ranges s v w text (Err errors.Disk) = HasSome to v w × Rose v.faults w.faults
-WritesTo file_name to name limit ranges s v w text (Err errors.Memory) = LeavesFiles v.told v w
-WritesTo file_name to name limit ranges s v w text (Err e) = ⊥
+abbrev pub WritesTo : List ℕ → List ℕ → ℕ → Bool → List Source → DiskView → DiskView → List ℕ → Result (Unit {0}) ErrorLine → Type 0
+WritesTo file_name to limit ranges s v w text (Ok a) = HasWritten file_name to limit ranges s v w text
+WritesTo file_name to limit ranges s v w text (Err (errors.FullSpace at size most)) =
+    LeavesFiles v.told v w × IsOut (map wanted_of s) limit (record { at = at; size = size; limit = most })
+WritesTo file_name to limit ranges s v w text (Err errors.Disk) = HasSome to v w × Rose v.faults w.faults
+WritesTo file_name to limit ranges s v w text (Err errors.Memory) = LeavesFiles v.told v w
+WritesTo file_name to limit ranges s v w text (Err e) = ⊥
 
 -- The new file was made, and then filled.
-pub record HasPackedNew (file_name to name : List ℕ) (limit : ℕ) (ranges : Bool) (s : Surveyed) (v w : DiskView) (text : List ℕ) : Type 0 where
+pub record HasPackedNew (file_name to : List ℕ) (limit : ℕ) (ranges : Bool) (s : List Source) (v w : DiskView) (text : List ℕ) : Type 0 where
   pub between : DiskView
   pub new : HasNew to [] v between
-  pub written : HasWritten file_name to name limit ranges s between w text
+  pub written : HasWritten file_name to limit ranges s between w text
 
 -- from before the new file on
-abbrev pub PacksTo : List ℕ → List ℕ → List ℕ → ℕ → Bool → Surveyed → DiskView → DiskView → List ℕ → Result (Unit {0}) ErrorLine → Type 0
-PacksTo file_name to name limit ranges s v w text (Ok a) = HasPackedNew file_name to name limit ranges s v w text
-PacksTo file_name to name limit ranges s v w text (Err errors.Exists) = LeavesFiles v.told v w × IfSome v.told (λ d. OfBytes (file d to) (λ b. Unit {0}))
-PacksTo file_name to name limit ranges s v w text (Err (errors.FullSpace at size most)) =
-    HasNew to [] v w × IsOut name (dataset_of s.grid) s.table.items limit (record { at = at; size = size; limit = most })
-PacksTo file_name to name limit ranges s v w text (Err errors.Disk) = (LeavesFiles v.told v w ⊎ HasUnborn to v w) × Rose v.faults w.faults
-PacksTo file_name to name limit ranges s v w text (Err errors.Memory) = LeavesFiles v.told v w ⊎ HasUnborn to v w
-PacksTo file_name to name limit ranges s v w text (Err e) = ⊥
+abbrev pub PacksTo : List ℕ → List ℕ → ℕ → Bool → List Source → DiskView → DiskView → List ℕ → Result (Unit {0}) ErrorLine → Type 0
+PacksTo file_name to limit ranges s v w text (Ok a) = HasPackedNew file_name to limit ranges s v w text
+PacksTo file_name to limit ranges s v w text (Err errors.Exists) = LeavesFiles v.told v w × IfSome v.told (λ d. OfBytes (file d to) (λ b. Unit {0}))
+PacksTo file_name to limit ranges s v w text (Err (errors.FullSpace at size most)) =
+    HasNew to [] v w × IsOut (map wanted_of s) limit (record { at = at; size = size; limit = most })
+PacksTo file_name to limit ranges s v w text (Err errors.Disk) = (LeavesFiles v.told v w ⊎ HasUnborn to v w) × Rose v.faults w.faults
+PacksTo file_name to limit ranges s v w text (Err errors.Memory) = LeavesFiles v.told v w ⊎ HasUnborn to v w
+PacksTo file_name to limit ranges s v w text (Err e) = ⊥
 
 -- a new file, and what is told of it
-pub record HasRepacked (file_name to name : List ℕ) (limit : ℕ) (ranges : Bool) (v w : DiskView) (text : List ℕ) : Type 0 where
+pub record HasRepacked (file_name to : List ℕ) (names : List (List ℕ)) (limit : ℕ) (ranges : Bool) (v w : DiskView) (text : List ℕ) : Type 0 where
   pub new_file : PackedFile
-  pub done : RepacksTo file_name to name limit v w (Ok new_file)
+  pub done : RepacksTo file_name to names limit v w (Ok new_file)
   pub text_is : text ≡ packed_text ranges new_file.end new_file.ranges
 
-abbrev pub RepackedTo : List ℕ → List ℕ → List ℕ → ℕ → Bool → DiskView → DiskView → List ℕ → Result (Unit {0}) ErrorLine → Type 0
-RepackedTo file_name to name limit ranges v w text (Ok a) = HasRepacked file_name to name limit ranges v w text
-RepackedTo file_name to name limit ranges v w text (Err e) = RepacksTo file_name to name limit v w (Err e)
+abbrev pub RepackedTo : List ℕ → List ℕ → List (List ℕ) → ℕ → Bool → DiskView → DiskView → List ℕ → Result (Unit {0}) ErrorLine → Type 0
+RepackedTo file_name to names limit ranges v w text (Ok a) = HasRepacked file_name to names limit ranges v w text
+RepackedTo file_name to names limit ranges v w text (Err e) = RepacksTo file_name to names limit v w (Err e)
 
 -- ---- That it ends well
 
 -- A disk tells its files; the source is valid, nobody writes it, and nothing has the new file's name.
-pub record MayRepack (file_name to name : List ℕ) (v : DiskView) : Type 0 where
+pub record MayRepack (file_name to : List ℕ) (names : List (List ℕ)) (v : DiskView) : Type 0 where
   pub state : DiskState
   pub told : v.told ≡ Some state
   pub source : List ℕ
   pub there : file state file_name ≡ Some source
-  pub reading : Reading
-  pub closed : IsClosedFile source name reading
+  pub readings : List Reading
+  pub closed : IsClosedFile source names readings
   pub missing : file state to ≡ None
 
 -- Then, where neither disk nor sink failed, all is done, or memory is wanting, or the new file would pass its limit.
-abbrev pub RepackEndsWell : List ℕ → List ℕ → List ℕ → DiskView → DiskView → Status → SinkView → SinkView → Type 0
-RepackEndsWell file_name to name v w status k l =
-    MayRepack file_name to name v → (Rose v.faults w.faults → ⊥) → (Rose k.faults l.faults → ⊥) → (status ≡ statuses.Done) ⊎ (status ≡ statuses.Memory) ⊎ (status ≡ statuses.Limit)
+abbrev pub RepackEndsWell : List ℕ → List ℕ → List (List ℕ) → DiskView → DiskView → Status → SinkView → SinkView → Type 0
+RepackEndsWell file_name to names v w status k l =
+    MayRepack file_name to names v → (Rose v.faults w.faults → ⊥) → (Rose k.faults l.faults → ⊥) → (status ≡ statuses.Done) ⊎ (status ≡ statuses.Memory) ⊎ (status ≡ statuses.Limit)

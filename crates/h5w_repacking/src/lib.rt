@@ -1,4 +1,4 @@
-//! The command that writes a dataset of a file anew into another one, over any disk and any sink.
+//! The command that writes datasets of a file anew into another one, over any disk and any sink.
 #![tactic(auto)]
 
 mod repacking;

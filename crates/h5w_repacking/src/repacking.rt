@@ -1,17 +1,19 @@
-//! The command that writes a dataset of a file anew into another one.
-ghost use Rattle.std.specs.Prelude.{◌≡◌, ◌++◌, ◌≢◌, ◌≤◌, ◌^◌, [], count_by, if◌then◌else◌, length, map, IfSome, OnOk};
+//! The command that writes datasets of a file anew into another one.
+ghost use Rattle.std.specs.Prelude.{◌≡◌, ◌++◌, ◌*◌, ◌≢◌, ◌≤◌, ◌^◌, [], count_by, if◌then◌else◌, length, map, IfSome, OnOk};
 ghost use Rattle.h5w_image.specs.View.{IsThere};
 ghost use Rattle.h5w_packing.specs.Jobs.{IsPrepared};
 ghost use Rattle.h5w_packing.specs.Tiles.{tile_of};
-ghost use Rattle.h5w_survey.specs.Surveys.{IsSurvey};
+ghost use Rattle.h5w_packing.specs.SoFar.{AreSources};
+ghost use Rattle.h5w_repack.specs.Packed.{ArePacks};
 ghost use Rattle.h5w_repacking.specs.Repacks.{CopiesTo, MakesNew, PacksTo, PlansTo, RepackEnds, RepackEndsWell, RepackedTo, SurveysTo, WritesTo, end_text, is_chunk, line_of_copy, line_of_plan, line_of_survey, packed_text, ranges_text};
 
 use crate::two_files::TwoFiles;
 use h5w_files::DiskImage;
 use h5w_image::{Disk, MakeError};
 use h5w_model::{OutOfMemory, ReadError};
+use h5w_names::Names;
 use h5w_repack::{
-    CopyError, Packing, PlanError, Range, Ranges, SurveyError, Surveyed, copy, kind, plan, survey,
+    CopyError, Packing, PlanError, Range, Ranges, Source, SurveyError, copy, kind, plan, survey,
 };
 use h5w_text::{ErrorLine, Sink, Status, say, tell, write_numbers, write_words};
 use std::alloc::Global;
@@ -67,10 +69,10 @@ fn line_of_copy(error: CopyError) -> ErrorLine
 fn surveyed<D: Disk>(
     alloc: Global,
     file: &str,
-    name: &[u8],
+    names: &Names,
     disk: &mut D,
-) -> Result<Surveyed, ErrorLine>
-    ensures { SurveysTo file.now name.now (D.view disk.old) (D.view disk.new) result }
+) -> Result<Vec<Source>, ErrorLine>
+    ensures { SurveysTo file.now names.now (D.view disk.old) (D.view disk.new) result }
 {
     let size = match disk.size(file) {
         Ok(Some(size)) => size,
@@ -78,7 +80,7 @@ fn surveyed<D: Disk>(
         Err(_) => return Err(ErrorLine::Disk),
     };
     let mut image = DiskImage { disk, name: file };
-    match survey(alloc, &mut image, size, name) {
+    match survey(alloc, &mut image, size, names) {
         Ok(found) => Ok(found),
         Err(error) => Err(line_of_survey(error)),
     }
@@ -175,14 +177,13 @@ fn copied<D: Disk>(
 }
 
 /// The plan of a new file of what was surveyed.
-fn planned(alloc: Global, found: &Surveyed, name: &[u8], limit: u64) -> Result<Packing, ErrorLine>
-    requires survey { IsSurvey found.now }
-    requires name { length name.now ≤ 255 }
-    requires low { 1024 ≤ limit }
+fn planned(alloc: Global, found: &[Source], limit: u64) -> Result<Packing, ErrorLine>
+    requires sources { AreSources found.now }
+    requires low { 1024 * length found.now ≤ limit }
     requires high { limit ≤ 2 ^ 40 }
-    ensures { PlansTo found.now name.now limit result }
+    ensures { PlansTo found.now limit result }
 {
-    match plan(alloc, &found.grid, &found.table, name, limit) {
+    match plan(alloc, found, limit) {
         Ok(packing) => Ok(packing),
         Err(error) => Err(line_of_plan(error)),
     }
@@ -214,95 +215,91 @@ fn fill<D: Disk>(
 /// Plans the new file, which is there without bytes, and fills it.
 fn written<D: Disk>(
     alloc: Global,
-    found: &Surveyed,
+    found: &[Source],
     file: &str,
     to: &str,
-    name: &[u8],
     limit: u64,
     ranges: bool,
     text: &mut Vec<u8>,
     disk: &mut D,
 ) -> Result<(), ErrorLine>
-    requires survey { IsSurvey found.now }
-    requires name { length name.now ≤ 255 }
-    requires low { 1024 ≤ limit }
+    requires sources { AreSources found.now }
+    requires low { 1024 * length found.now ≤ limit }
     requires high { limit ≤ 2 ^ 40 }
     requires from { IsThere (D.view disk.old) file.now }
     requires to { IsThere (D.view disk.old) to.now }
     requires apart { IfSome (D.view disk.old).told (λ d. file.now ≢ to.now) }
     requires empty { text.old.items ≡ [] }
-    ensures { WritesTo file.now to.now name.now limit ranges found.now (D.view disk.old) (D.view disk.new) text.new.items result }
+    ensures { WritesTo file.now to.now limit ranges found.now (D.view disk.old) (D.view disk.new) text.new.items result }
 {
-    let mut packing = planned(alloc, found, name, limit)?;
+    let mut packing = planned(alloc, found, limit)?;
     fill(&mut packing, file, to, ranges, text, disk)
 }
 
 /// Makes the new file, plans it, and fills it.
 fn packed<D: Disk>(
     alloc: Global,
-    found: &Surveyed,
+    found: &[Source],
     file: &str,
     to: &str,
-    name: &[u8],
     limit: u64,
     ranges: bool,
     text: &mut Vec<u8>,
     disk: &mut D,
 ) -> Result<(), ErrorLine>
-    requires survey { IsSurvey found.now }
-    requires name { length name.now ≤ 255 }
-    requires low { 1024 ≤ limit }
+    requires sources { AreSources found.now }
+    requires low { 1024 * length found.now ≤ limit }
     requires high { limit ≤ 2 ^ 40 }
     requires from { IsThere (D.view disk.old) file.now }
     requires empty { text.old.items ≡ [] }
-    ensures { PacksTo file.now to.now name.now limit ranges found.now (D.view disk.old) (D.view disk.new) text.new.items result }
+    ensures { PacksTo file.now to.now limit ranges found.now (D.view disk.old) (D.view disk.new) text.new.items result }
 {
     make(to, disk)?;
-    written(alloc, found, file, to, name, limit, ranges, text, disk)
+    written(alloc, found, file, to, limit, ranges, text, disk)
 }
 
-/// Writes the dataset anew, and puts what is told of it into `text`.
+/// Writes the datasets anew, and puts what is told of them into `text`.
 fn repacked<D: Disk>(
     alloc: Global,
     file: &str,
     to: &str,
-    name: &[u8],
+    names: &Names,
     limit: u64,
     ranges: bool,
     text: &mut Vec<u8>,
     disk: &mut D,
 ) -> Result<(), ErrorLine>
-    requires name { length name.now ≤ 255 }
-    requires low { 1024 ≤ limit }
+    requires names { ArePacks names.now }
+    requires low { 1024 * length names.now ≤ limit }
     requires high { limit ≤ 2 ^ 40 }
     requires empty { text.old.items ≡ [] }
-    ensures { RepackedTo file.now to.now name.now limit ranges (D.view disk.old) (D.view disk.new) text.new.items result }
+    ensures { RepackedTo file.now to.now names.now limit ranges (D.view disk.old) (D.view disk.new) text.new.items result }
 {
-    let found = surveyed(alloc, file, name, disk)?;
-    packed(alloc, &found, file, to, name, limit, ranges, text, disk)
+    let found = surveyed(alloc, file, names, disk)?;
+    packed(alloc, &found, file, to, limit, ranges, text, disk)
 }
 
-/// Writes the dataset that the root group's link of `name` leads to, in the file of the name `file`, into a new file of the name `to`, which
+/// Writes the datasets that the root group's links of `names` lead to, in the file of the name `file`, into a new file of the name `to`, which
 /// ends by `limit`, and tells where it ends and what it has; before that, where `ranges` is set, its ranges by their places.
 #[tactic(auto, using(crate::proofs::EndLemmas::repacks_whole))]
 pub fn repack<K: Sink, D: Disk>(
     alloc: Global,
     file: &str,
     to: &str,
-    name: &[u8],
+    names: &Names,
     limit: u64,
     ranges: bool,
     sink: &mut K,
     disk: &mut D,
 ) -> Status
-    requires name { length name.now ≤ 255 }
-    requires low { 1024 ≤ limit }
+    requires names { ArePacks names.now }
+    requires low { 1024 * length names.now ≤ limit }
     requires high { limit ≤ 2 ^ 40 }
-    ensures repacks { RepackEnds file.now to.now name.now limit ranges (D.view disk.old) (D.view disk.new) result (K.view sink.old) (K.view sink.new) }
-    ensures completes { RepackEndsWell file.now to.now name.now (D.view disk.old) (D.view disk.new) result (K.view sink.old) (K.view sink.new) }
+    ensures repacks { RepackEnds file.now to.now names.now limit ranges (D.view disk.old) (D.view disk.new) result (K.view sink.old) (K.view sink.new) }
+    ensures completes { RepackEndsWell file.now to.now names.now (D.view disk.old) (D.view disk.new) result (K.view sink.old) (K.view sink.new) }
 {
     let mut text = Vec::new(alloc);
-    match repacked(alloc, file, to, name, limit, ranges, &mut text, disk) {
+    match repacked(alloc, file, to, names, limit, ranges, &mut text, disk) {
         Ok(()) => say(&text, Status::Done, sink),
         Err(error) => tell(alloc, &error, sink),
     }

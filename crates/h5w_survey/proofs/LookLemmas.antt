@@ -1,22 +1,15 @@
 -- That the looks of a program come to an end, and that what each gives leaves what an image that stays gives.
-use Rattle.std.proofs.Common.{◌≡◌, ℕ, zero, suc, ◌<◌, ◌≤◌, List, [], ◌∷◌, length, Option, Some, None, subst, ap, sym, ◌∙◌, inl, inr, arith}
-use Rattle.std.specs.Prelude.{IfSome}
+use Rattle.std.proofs.Common.{◌≡◌, ℕ, zero, suc, ◌<◌, ◌≤◌, List, [], ◌∷◌, length, Option, Some, None, subst, ap, inl, inr, arith}
 use Rattle.std.proofs.lemmas.Bool.{cases_lt}
 use Rattle.std.proofs.lemmas.List.Elements.{All-head, All-tail}
 use Rattle.std.proofs.Math.Nat.{le_trans, le-max_left, le-max_right}
-use Rattle.h5w_model.specs.Numbers.{AreBytes, range}
-use Rattle.h5w_model.specs.Programs.{Prog, ret, whole, counted, stored, eval, next_look, fed}
-use Rattle.h5w_image.specs.View.{GivesRange, ImageView}
-use Rattle.h5w_looks.specs.Still.{IsStill}
+use Rattle.h5w_model.specs.Numbers.{AreBytes}
+use Rattle.h5w_model.specs.Programs.{Prog, ret, whole, counted, stored, next_look, fed}
 use Rattle.h5w_survey.specs.Lookups.{greatest_at, greatest_to, most_looks}
 
 abbrev length_in : Option (ℕ × ℕ) → ℕ
 length_in None = 0
 length_in (Some look) = look.1
-
-abbrev place_in : Option (ℕ × ℕ) → ℕ
-place_in None = 0
-place_in (Some look) = look.0
 
 greatest_to_most : (n : ℕ) (f : ℕ → ℕ) (k : ℕ) → k ≤ n → f k ≤ greatest_to n f
 greatest_to_most zero f k h = let e : 0 ≡ k = omega arith in subst (λ x. f x ≤ f 0) e (omega arith)
@@ -46,17 +39,3 @@ most_fed (whole place n next) at len bytes e are short =
     omega (arith, h)
 most_fed (counted place counts next) at len bytes e are short = cc
 most_fed (stored kind place n next) at len bytes e are short = cc
-
--- what is left of it comes to the same
-eval_fed : {A : Type 0} (img : List ℕ) (p : Prog A) (at len : ℕ) → next_look p ≡ Some (at, len) → eval img (fed (range img at len) p) ≡ eval img p
-eval_fed img (ret a) at len e = cc
-eval_fed img (whole place n next) at len e =
-    ap (λ x. eval img (next (range img x len))) (sym (ap place_in e)) ∙ ap (λ x. eval img (next (range img place x))) (sym (ap length_in e))
-eval_fed img (counted place counts next) at len e = cc
-eval_fed img (stored kind place n next) at len e = cc
-
-given_there : (x : ImageView) (img : List ℕ) (at len : ℕ) (bytes : List ℕ) → IsStill x img → GivesRange x at len bytes → bytes ≡ range img at len
-given_there x img at len bytes still gives = subst (λ (o : Option (List ℕ)). IfSome o (λ b. bytes ≡ range b at len)) still.told gives
-
-pub same_then : {A : Type 0} (img : List ℕ) (p : Prog A) (at len : ℕ) (bytes : List ℕ) (x : ImageView) → next_look p ≡ Some (at, len) → IsStill x img → GivesRange x at len bytes → eval img (fed bytes p) ≡ eval img p
-same_then img p at len bytes x e still gives = ap (λ b. eval img (fed b p)) (given_there x img at len bytes still gives) ∙ eval_fed img p at len e

@@ -3,10 +3,10 @@ use Rattle.std.proofs.Common.{◌≡◌, ℕ, ◌^◌, ◌≤◌, cond, false, L
 use Rattle.std.specs.Prelude.{nat_lt}
 use Rattle.std.proofs.lemmas.Bool.{cond-false, le-ltb}
 use Rattle.h5w_model.specs.Numbers.{range}
-use Rattle.h5w_model.specs.Programs.{Prog, ret, eval, and_then, lowered}
+use Rattle.h5w_model.specs.Programs.{Prog, ret, eval, and_then}
 use Rattle.h5w_model.specs.Headers.{header_view}
-use Rattle.h5w_model.specs.Datasets.{Described, FoundMessage, HeaderFields, dataset, dataset_from, dataset_messages, dataset_place, described, linked, refused_as, root_header, superblock, then_also}
-use Rattle.h5w_model.specs.Tables.{Reading, format_limits, limit_of, needed, needed_keys, needed_table, reading}
+use Rattle.h5w_model.specs.Datasets.{Described, FoundMessage, HeaderFields, dataset, dataset_messages, dataset_place, described, linked, refused_as, root_header, superblock, then_also}
+use Rattle.h5w_model.specs.Tables.{Reading, format_limits, limit_of, needed, needed_keys, reading}
 use Rattle.h5w_model.specs.Calls.{needed_from, not_shrunk}
 use Rattle.h5w_model.specs.declared.root.Super.{Super}
 use Rattle.h5w_model.specs.declared.refusal.ReadError.{ReadError}

@@ -18,7 +18,13 @@ use Rattle.h5w_model.proofs.CheckedLemmas.{checked-passed}
 use Rattle.h5w_laws.proofs.ResultLemmas.{and_then_ok, refused_ok, then_ok}
 use Rattle.h5w_laws.proofs.ValidLemmas.{valid_shows}
 use Rattle.h5w_header_laws.proofs.DescribedLemmas.{parts_of}
-use Rattle.h5w_survey.specs.Surveys.{IsValid, IsWhole, is_written}
+use Rattle.h5w_laws.proofs.SeveralLemmas.{each_valid, finds_all}
+use Rattle.h5w_laws.specs.Several.{IsShare}
+use Rattle.h5w_steps.proofs.MomentLemmas.{super_parts}
+use Rattle.h5w_model.specs.Findings.{AllSummary, Summary, Valid}
+use Rattle.h5w_model.specs.Relations.{AllPaired}
+use Rattle.h5w_several_laws.specs.Together.{IsAllValid}
+use Rattle.h5w_survey.specs.Surveys.{IsWhole, is_written}
 
 -- ---- The shape
 
@@ -128,16 +134,27 @@ shown_whole img name r shows =
     let parts = parts_of h.messages r.dataset h.says in
     record { shaped = shaped_by parts.space r.dataset.shape parts.shape; listed = h.table.listed; few = h.table.few }
 
--- a valid file shows one
-pub valid_shown : (img name : List ℕ) → IsValid img name → (r : Reading) × Shows format_limits img name r
-valid_shown img name valid = let whole = valid_shows img name valid.0 valid.1 in (whole.shown, whole.shows)
+-- what a valid file shows by each of its names
+pub record AllShown (img : List ℕ) (names : List (List ℕ)) : Type 0 where
+  pub readings : List Reading
+  pub each : AllPaired (Shows format_limits img) names readings
+
+shown_each : (img : List ℕ) (t : AllSummary) (names : List (List ℕ)) (rows : List ℕ) → AllPaired (λ (name : List ℕ) (n : ℕ). (s : Summary) × Valid img name s × IsShare t n s) names rows → AllShown img names
+shown_each img t [] rows h = record { readings = []; each = tt }
+shown_each img t (name ∷ names) [] h = absurd h
+shown_each img t (name ∷ names) (n ∷ rows) h =
+    let one = valid_shows img name (h.0).0 (h.0).1 in
+    let rest = shown_each img t names rows h.1 in
+    record { readings = one.shown ∷ rest.readings; each = (one.shows, rest.each) }
+
+pub valid_shown : (img : List ℕ) (names : List (List ℕ)) → IsAllValid img names → AllShown img names
+valid_shown img names valid = shown_each img valid.0 names valid.0.rows (each_valid img names valid.0 valid.1)
 
 -- and it has a superblock
-pub valid_super : (img name : List ℕ) → IsValid img name → (s : Super) × (super_at (range img 0 48) ≡ Ok s)
-valid_super img name valid =
-    let r = valid_shown img name valid in
-    let h = shown_parts img name r.0 r.1 in
-    (h.super, h.decoded)
+pub valid_super : (img : List ℕ) (names : List (List ℕ)) → IsAllValid img names → (s : Super) × (super_at (range img 0 48) ≡ Ok s)
+valid_super img names valid =
+    let has = (finds_all format_limits img names valid.0).0 valid.1 in
+    (has.superblock, (super_parts (length img) (range img 0 48) has.superblock has.found).read)
 
 -- ---- The superblock
 

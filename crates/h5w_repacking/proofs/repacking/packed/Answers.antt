@@ -12,9 +12,9 @@ written-requires-clause-apart g c = new_apart {u = g.D.Disk.view c.args.disk.now
 pub returns-in_err-make : goal.returns-in_err-make
 returns-in_err-make g c =
     let is : c.from_residual.result ≡ Err c.in_err-make.field-0.0 = search rules in
-    rw is (packs_unmade c.args.file.now c.args.to.now c.args.name.now c.args.limit c.args.ranges c.args.found.now c.args.text.now.items (g.D.Disk.view c.args.disk.now) (g.D.Disk.view c.make.new.disk) c.in_err-make.field-0.0 c.in_err-make.ensures)
+    rw is (packs_unmade c.args.file.now c.args.to.now c.args.limit c.args.ranges c.args.found.now c.args.text.now.items (g.D.Disk.view c.args.disk.now) (g.D.Disk.view c.make.new.disk) c.in_err-make.field-0.0 c.in_err-make.ensures)
 
 pub returns : goal.returns
 returns g c =
-    packs_made c.args.file.now c.args.to.now c.args.name.now c.args.limit c.args.ranges c.args.found.now c.written.new.text.items (g.D.Disk.view c.args.disk.now) (g.D.Disk.view c.make.new.disk) (g.D.Disk.view c.written.new.disk) c.written.result
+    packs_made c.args.file.now c.args.to.now c.args.limit c.args.ranges c.args.found.now c.written.new.text.items (g.D.Disk.view c.args.disk.now) (g.D.Disk.view c.make.new.disk) (g.D.Disk.view c.written.new.disk) c.written.result
     c.in_ok-make.ensures.0 c.written.ensures

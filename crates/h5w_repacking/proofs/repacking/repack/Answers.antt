@@ -5,7 +5,7 @@ use Rattle.h5w_repacking.proofs.repacking.repack.Goals as goal
 pub returns-in-Ok-clause-repacks : goal.returns-in-Ok-clause-repacks
 returns-in-Ok-clause-repacks g c =
     let done = c.in-Ok.ensures in
-    repacks_done c.args.file.now c.args.to.now c.args.name.now c.args.limit c.args.ranges done.new_file c.deref.result.now c.say.result done.done (c.deref.ensures.value ∙ done.text_is) c.say.ensures
+    repacks_done c.args.file.now c.args.to.now c.args.names.now c.args.limit c.args.ranges done.new_file c.deref.result.now c.say.result done.done (c.deref.ensures.value ∙ done.text_is) c.say.ensures
 
 pub returns-clause-repacks : goal.returns-clause-repacks
-returns-clause-repacks g c = repacks_told c.args.file.now c.args.to.now c.args.name.now c.args.limit c.args.ranges c.in-Err.error c.tell.result c.in-Err.ensures c.tell.ensures
+returns-clause-repacks g c = repacks_told c.args.file.now c.args.to.now c.args.names.now c.args.limit c.args.ranges c.in-Err.error c.tell.result c.in-Err.ensures c.tell.ensures

@@ -17,7 +17,7 @@ returns-in-Ok g c =
     let there = there_when_sized {v = u} {w = v} c.args.file.now c.in-Ok-Some.size c.size.ensures.same sized in
     let same = reference_looked c.in-Ok.ensures.step.looked _ _ _ _ refl refl in
     let fact =
-    surveys_by {u = u} {v = v} {w = g.D.Disk.view c.survey.new.from.disk.now} _ _ c.in-Ok-Some.size c.args.file.now c.survey.new.from.name.now c.args.name.now (Ok c.in-Ok.found) low c.size.ensures.same sized there c.in-Ok.ensures.step
+    surveys_by {u = u} {v = v} {w = g.D.Disk.view c.survey.new.from.disk.now} _ _ c.in-Ok-Some.size c.args.file.now c.survey.new.from.name.now c.args.names.now (Ok c.in-Ok.found) low c.size.ensures.same sized there c.in-Ok.ensures.step
     c.in-Ok.ensures.sound in
     search (rules, same, fact)
 
@@ -31,6 +31,6 @@ returns-in-Err-survey g c =
     let there = there_when_sized {v = u} {w = v} c.args.file.now c.in-Ok-Some.size c.size.ensures.same sized in
     let same = reference_looked c.in-Err-survey.ensures.step.looked _ _ _ _ refl refl in
     let fact =
-    subst (λ (e : ErrorLine). SurveysTo c.args.file.now c.args.name.now u w (Err e)) (sym c.line_of_survey.ensures)
-    (surveys_by {u = u} {v = v} {w = w} _ _ c.in-Ok-Some.size c.args.file.now c.survey.new.from.name.now c.args.name.now (Err c.in-Err-survey.error) low c.size.ensures.same sized there c.in-Err-survey.ensures.step tt) in
+    subst (λ (e : ErrorLine). SurveysTo c.args.file.now c.args.names.now u w (Err e)) (sym c.line_of_survey.ensures)
+    (surveys_by {u = u} {v = v} {w = w} _ _ c.in-Ok-Some.size c.args.file.now c.survey.new.from.name.now c.args.names.now (Err c.in-Err-survey.error) low c.size.ensures.same sized there c.in-Err-survey.ensures.step tt) in
     search (rules, same, fact)

@@ -1,4 +1,4 @@
-use Rattle.std.proofs.Common.{◌≡◌, ◌∙◌, None, sym, ap}
+use Rattle.std.proofs.Common.{◌∙◌, None, sym, ap}
 use Rattle.h5w_model.specs.Programs.{eval}
 use Rattle.h5w_image.proofs.ViewLemmas.{looked_twice}
 use Rattle.h5w_looks.proofs.ReadLemmas.{still_on}

@@ -1,10 +1,8 @@
-use Rattle.std.proofs.Common.{◌<◌, List, ℕ, None, subst, sym, ap, ◌∙◌}
+use Rattle.std.proofs.Common.{◌<◌, List, ℕ, None, subst, sym}
 use Rattle.h5w_model.specs.Numbers.{AreBytes}
-use Rattle.h5w_model.specs.Programs.{Prog, eval}
 use Rattle.h5w_lookup.specs.Attempts.{looking_up, rules_of}
 use Rattle.h5w_survey.specs.Lookups.{most_looks}
-use Rattle.h5w_survey.proofs.LookLemmas.{most_fed, same_then}
-use Rattle.h5w_looks.proofs.ReadLemmas.{still_on}
+use Rattle.h5w_survey.proofs.LookLemmas.{most_fed}
 use Rattle.h5w_survey.proofs.looking.one_look.Goals as goal
 
 pub returns-clause-fewer : goal.returns-clause-fewer
