@@ -8,8 +8,8 @@ use Rattle.h5w_model.specs.declared.root.Super.{Super}
 use Rattle.h5w_model.specs.declared.refusal.ReadError.{ReadError}
 use Rattle.h5w_laws.proofs.ProgramLemmas.{eval_and_then}
 use Rattle.h5w_found.specs.Walks.{root_header_for}
-use Rattle.h5w_opening.specs.Fronts.{FrontFields, front_for, places_by, places_found}
-use Rattle.h5w_opening.specs.Openings.{closed_super, reading, super_found}
+use Rattle.h5w_opening.specs.Fronts.{FrontFields, front_by, front_for, places_by, places_found}
+use Rattle.h5w_opening.specs.Openings.{closed_super, reading, super_by, super_found}
 use Rattle.h5w_opening.specs.declared.error.OpenError.{OpenError}
 use Rattle.h5w_opening.specs.declared.error.OpenError.TheVariants.{Read}
 use Rattle.h5w_opening.proofs.OpeningLemmas.{read_first, then_joined}
@@ -33,12 +33,15 @@ closed_gives img names s =
     read_first img (root_header_for true s.root) (on_root names s)
     ∙ then_joined (refused_as Read (eval img (root_header_for true s.root))) (λ h. places_by names h.messages) (fronted_by s)
 
-pub front_gives : (img : List ℕ) (names : List (List ℕ)) (size : ℕ) → eval img (front_for size names) ≡ then_also (super_found size img) (places_behind names img)
+pub fronts_give : (tested : Super → Result Super OpenError) (img : List ℕ) (names : List (List ℕ)) → eval img (front_by tested names) ≡ then_also (super_by tested img) (places_behind names img)
 unfolding on_closed on_root
-front_gives img names size =
+fronts_give tested img names =
     let top : Prog (Result Super ReadError) = whole 0 48 (λ b. ret (refused_as super_refusal (super_at b))) in
     let given : Result Super ReadError = refused_as super_refusal (super_at (range img 0 48)) in
-    read_first img top (λ s. and_then (ret (closed_super size s)) (on_closed names))
-    ∙ ap (then_also (refused_as Read given)) (λ i s. eval_and_then img (ret (closed_super size s)) (on_closed names) i)
-    ∙ ap (then_also (refused_as Read given)) (λ i s. then_also (closed_super size s) (λ t. closed_gives img names t i))
-    ∙ then_joined (refused_as Read given) (closed_super size) (places_behind names img)
+    read_first img top (λ s. and_then (ret (tested s)) (on_closed names))
+    ∙ ap (then_also (refused_as Read given)) (λ i s. eval_and_then img (ret (tested s)) (on_closed names) i)
+    ∙ ap (then_also (refused_as Read given)) (λ i s. then_also (tested s) (λ t. closed_gives img names t i))
+    ∙ then_joined (refused_as Read given) tested (places_behind names img)
+
+pub front_gives : (img : List ℕ) (names : List (List ℕ)) (size : ℕ) → eval img (front_for size names) ≡ then_also (super_found size img) (places_behind names img)
+front_gives img names size = fronts_give (closed_super size) img names

@@ -5,7 +5,7 @@ use Rattle.h5w_model.specs.Superblock.{super_at}
 use Rattle.h5w_model.specs.Datasets.{FoundMessage, super_refusal, all_linked, same_link, then_also, refused_as}
 use Rattle.h5w_model.specs.declared.root.Super.{Super}
 use Rattle.h5w_found.specs.Walks.{root_header_for}
-use Rattle.h5w_opening.specs.Openings.{closed_super, reading}
+use Rattle.h5w_opening.specs.Openings.{closed_super, reading, written_super}
 use Rattle.h5w_opening.specs.declared.error.OpenError.{OpenError}
 use Rattle.h5w_opening.specs.declared.error.OpenError.TheVariants.{Read, Same}
 
@@ -23,13 +23,21 @@ unlike places None = Ok places
 abbrev pub places_by : List (List ℕ) → List FoundMessage → Result (List ℕ) OpenError
 places_by names ms = then_also (refused_as Read (all_linked names ms)) (λ places. unlike places (same_link places))
 
--- all that is looked at before the first dataset header
-abbrev pub front_for : ℕ → List (List ℕ) → Prog (Result FrontFields OpenError)
-front_for size names =
+-- all that is looked at before the first dataset header, where the superblock is tested so
+abbrev pub front_by : (Super → Result Super OpenError) → List (List ℕ) → Prog (Result FrontFields OpenError)
+front_by tested names =
     and_then (reading (whole 0 48 (λ b. ret (refused_as super_refusal (super_at b))))) (λ s.
-    and_then (ret (closed_super size s)) (λ s.
+    and_then (ret (tested s)) (λ s.
     and_then (reading (root_header_for true s.root)) (λ h.
     ret (then_also (places_by names h.messages) (λ places. Ok (record { root = s; places = places }))))))
+
+-- so of a file of this size that nobody writes
+abbrev pub front_for : ℕ → List (List ℕ) → Prog (Result FrontFields OpenError)
+front_for size names = front_by (closed_super size) names
+
+-- and of one that somebody writes, or wrote and did not close
+abbrev pub written_front : ℕ → List (List ℕ) → Prog (Result FrontFields OpenError)
+written_front size names = front_by (written_super size) names
 
 -- its last part on an image
 abbrev pub places_found : List (List ℕ) → ℕ → List ℕ → Result (List ℕ) OpenError

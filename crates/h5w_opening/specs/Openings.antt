@@ -36,6 +36,17 @@ closed_super size s =
     else if is_open s.flags then Err (Flags s.flags)
     else if nat_lt size s.end then Err (Cut s.end size) else Ok s
 
+-- open for writing and for SWMR writing
+abbrev pub is_written : ℕ → Bool
+is_written flags = (flags % 2 == 1) && (flags / 4 % 2 == 1)
+
+-- the superblock of a file of this size that somebody writes, or wrote and did not close
+abbrev pub written_super : ℕ → Super → Result Super OpenError
+written_super size s =
+    if s.version == 2 then Err (Version 2)
+    else if not (is_written s.flags) then Err (Flags s.flags)
+    else if nat_lt size s.end then Err (Cut s.end size) else Ok s
+
 -- the first layout message stands in chunk 0
 abbrev pub in_chunk_0 : List FoundMessage → Bool
 in_chunk_0 ms = elim (first_of layout_kind ms) [ Some m ↦ m.in_chunk_0 | None ↦ false ]
@@ -68,8 +79,12 @@ looked_for size name =
 
 -- ---- Its parts on an image
 
+-- the superblock, where it is tested so
+abbrev pub super_by : (Super → Result Super OpenError) → List ℕ → Result Super OpenError
+super_by tested img = then_also (refused_as Read (refused_as super_refusal (super_at (range img 0 48)))) tested
+
 abbrev pub super_found : ℕ → List ℕ → Result Super OpenError
-super_found size img = then_also (refused_as Read (refused_as super_refusal (super_at (range img 0 48)))) (closed_super size)
+super_found size img = super_by (closed_super size) img
 
 abbrev pub place_found : List ℕ → ℕ → List ℕ → Result ℕ OpenError
 place_found name root img = then_also (refused_as Read (eval img (root_header_for true root))) (λ h. refused_as Read (linked name h.messages))

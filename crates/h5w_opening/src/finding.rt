@@ -23,7 +23,7 @@ const LAYOUT: u8 = 0x08;
 const CHUNK_BYTES: u64 = 16_777_216;
 
 /// The version of a superblock that is read and not written.
-const READ_ONLY: u8 = 2;
+pub(crate) const READ_ONLY: u8 = 2;
 
 /// What the header of a dataset says.
 #[derive(Clone, Copy)]

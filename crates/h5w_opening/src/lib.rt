@@ -7,7 +7,9 @@
 mod error;
 mod finding;
 mod names;
+mod written;
 
 pub use error::OpenError;
 pub use finding::{DatasetHeader, Opening, check, dataset_at, find};
 pub use names::{Front, find_front};
+pub use written::find_written;

@@ -67,7 +67,7 @@ fn places_by(alloc: Global, found: Vec<FoundMessage>, names: &Names) -> Result<V
 }
 
 /// The places of the dataset headers, by the links of these names in the root header at `root`.
-fn header_places<I: PieceRead>(
+pub(crate) fn header_places<I: PieceRead>(
     alloc: Global,
     image: &mut I,
     root: u64,

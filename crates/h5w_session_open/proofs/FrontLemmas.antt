@@ -61,18 +61,19 @@ not_there img s sound super =
     let first = checked-passed (super_tests (range img 0 48)) (super_fields (range img 0 48)) s super in
     front img index.0.1.0 first.0.0
 
-lacks_array : (img : List ℕ) (o : Opened) (v : Store) → IsFound o → super_at (range img 0 48) ≡ Ok o.root → IsArrayOf img o.header.dataset v → place_at_part v index_block ≡ 0 → ⊥
-lacks_array img o v found super x lacks =
+lacks_array : (img : List ℕ) (s : Super) (o : Opened) (v : Store) → IsFound o → super_at (range img 0 48) ≡ Ok s → IsArrayOf img o.header.dataset v → place_at_part v index_block ≡ 0 → ⊥
+lacks_array img s o v found super x lacks =
     let here = kept (block_at_part v index_block) (StandsAt img (first_open_line o.header.dataset) index_block (place_at_part v index_block)) (x.array.in_place index_block tt refl).0 (x.opened.each index_block tt) in
     elim here.1 [
-      | inl there ↦ not_there img o.root (subst (λ n. refused_on img index_block n ≡ None) lacks there.sound) super
+      | inl there ↦ not_there img s (subst (λ n. refused_on img index_block n ≡ None) lacks there.sound) super
       | inr passed ↦ (let early = passed.early in let below = open_below o.header found.said x.kind in omega (arith, early, below))
     ]
 
-pub lacks_front : (img : List ℕ) (o : Opened) (a : Result IndexView NoIndex) → IsFound o → super_at (range img 0 48) ≡ Ok o.root → IsIndexOf img o.header.dataset a → LacksItsBlock a → ⊥
-lacks_front img o (Ok (an_array v)) found super x lacks = lacks_array img o v found super x (eqb-true (place_at_part v index_block) 0 lacks)
-lacks_front img o (Ok (a_tree place v)) found super x lacks = cc
-lacks_front img o (Err why) found super x lacks = lacks
+-- whichever superblock that is
+pub lacks_front : (img : List ℕ) (s : Super) (o : Opened) (a : Result IndexView NoIndex) → IsFound o → super_at (range img 0 48) ≡ Ok s → IsIndexOf img o.header.dataset a → LacksItsBlock a → ⊥
+lacks_front img s o (Ok (an_array v)) found super x lacks = lacks_array img s o v found super x (eqb-true (place_at_part v index_block) 0 lacks)
+lacks_front img s o (Ok (a_tree place v)) found super x lacks = cc
+lacks_front img s o (Err why) found super x lacks = lacks
 
 pub lacks_none : (img : List ℕ) (size : ℕ) (name : List ℕ) (o : Opened) (a : Result IndexView NoIndex) → IsFound o → IsFoundIn img size name o a → LacksItsBlock a → ⊥
-lacks_none img size name o a found f lacks = lacks_front img o a found (parts img size name o f.is).super f.index lacks
+lacks_none img size name o a found f lacks = lacks_front img o.root o a found (parts img size name o f.is).super f.index lacks

@@ -41,8 +41,8 @@ use Rattle.h5w_index.proofs.BeginLemmas.{index_begins}
 use Rattle.h5w_ea_index.proofs.StandingLemmas.{opened_stands as array_stands}
 use Rattle.h5w_found.specs.Walks.{root_header_for, dataset_header_for}
 use Rattle.h5w_header_laws.specs.Files.{chunk_0, LayoutInChunk0}
-use Rattle.h5w_opening.specs.Openings.{Opened, looked_for, in_chunk_0}
-use Rattle.h5w_opening.proofs.FoundParts.{Parts, parts}
+use Rattle.h5w_opening.specs.Openings.{Opened, looked_for, in_chunk_0, chunk_0_len}
+use Rattle.h5w_opening.proofs.FoundParts.{parts}
 use Rattle.h5w_opening.proofs.WritingLemmas.{alike_ok, dataset_alike, root_alike}
 use Rattle.h5w_starting_laws.specs.Starting.{no_chunk}
 use Rattle.h5w_starting_laws.proofs.StartLemmas.{created_blank, unnamed_nowhere}
@@ -145,10 +145,24 @@ lacking at (a_tree place v) made = absurd made
 
 -- ---- The file at a moment is what was found
 
-module _ (img name : List ℕ) (size : ℕ) (o : Opened) (m : Moment) (is : eval img (looked_for size name) ≡ Ok o) (file : Represents img name m) where
-  pub found : Parts img size name o
-  found = parts img size name o is
+-- what was found of it, whoever writes the file
+pub record HasParts (img name : List ℕ) (o : Opened) : Type 0 where
+  pub super : super_at (range img 0 48) ≡ Ok o.root
+  pub root : HeaderFields
+  pub root_read : eval img (root_header_for true o.root.root) ≡ Ok root
+  pub link : linked name root.messages ≡ Ok o.place
+  pub header : HeaderFields
+  pub header_read : eval img (dataset_header_for true o.place) ≡ Ok header
+  pub says : described header.messages ≡ Ok o.header.dataset
+  pub len : o.header.len ≡ chunk_0_len header.ranges
+  pub in_chunk : o.header.in_chunk_0 ≡ in_chunk_0 header.messages
 
+pub has_parts : (img name : List ℕ) (size : ℕ) (o : Opened) → eval img (looked_for size name) ≡ Ok o → HasParts img name o
+has_parts img name size o is =
+    let p = parts img size name o is in
+    record { super = p.super; root = p.root; root_read = p.root_read; link = p.link; header = p.header; header_read = p.header_read; says = p.says; len = p.len; in_chunk = p.in_chunk }
+
+module _ (img name : List ℕ) (o : Opened) (m : Moment) (found : HasParts img name o) (file : Represents img name m) where
   rooted : RootParts img name m.super m.place file.root.own
   rooted = root_parts img name m.super m.place file.root.own file.root.checked
 
@@ -312,18 +326,18 @@ module _ (img name : List ℕ) (size : ℕ) (o : Opened) (v : IndexView) (limit 
   over_any : ((m : Moment) → Represents img name m → IsOver (session_over o (chunk_0 img o.place) v name limit budget) img m) → Stands (opened_session o (chunk_0 img o.place) v name limit budget) (opened_log img columns values)
   over_any is_so =
       let first = opens img name rows columns values sm valid reads in
-      let columns_are : o.header.dataset.shape.cols ≡ columns = ap (λ (d : Described). d.shape.cols) (sym (dataset_same img name size o first.0 is first.1)) ∙ first.4 in
+      let columns_are : o.header.dataset.shape.cols ≡ columns = ap (λ (d : Described). d.shape.cols) (sym (dataset_same img name o first.0 (has_parts img name size o is) first.1)) ∙ first.4 in
       let t = over_laws.over img name rows columns values sm valid reads (omega (arith, some, columns_are)) in
       let s : Session = session_over o (chunk_0 img o.place) v name limit budget in
       let stands = t.2 s refl (is_so t.0 t.1) in
       over_laws.rewritten s (opened_log img columns values) (writing_flags o.root.flags) false reads_back (swmr o.root) refl refl stands
 
   pub opened_over : IsIndexOf img o.header.dataset (Ok v) → IsFirst o.header.dataset v → 1024 ≤ limit → limit ≤ 2 ^ 40 → Stands (opened_session o (chunk_0 img o.place) v name limit budget) (opened_log img columns values)
-  opened_over x below low high = over_any (λ m file. is_over img name size o m is file v x below limit budget some low high)
+  opened_over x below low high = over_any (λ m file. is_over img name o m (has_parts img name size o is) file v x below limit budget some low high)
 
   pub started_over : o.header.dataset.layout.address ≡ undefined → IsBlankOf o.header.dataset.layout.index v → o.header.in_chunk_0 ≡ true → 1024 ≤ limit → limit ≤ 2 ^ 40
       → Stands (opened_session o (chunk_0 img o.place) v name limit budget) (opened_log img columns values)
-  started_over absent made inside low high = over_any (λ m file. is_begun img name size o m is file v absent made inside limit budget some low high)
+  started_over absent made inside low high = over_any (λ m file. is_begun img name o m (has_parts img name size o is) file v absent made inside limit budget some low high)
 
   pub bare_over : IsEmptyOf img o.header.dataset → IsBare o.header.dataset.layout.address v → o.header.dataset.layout.address < undefined → 1024 ≤ limit → limit ≤ 2 ^ 40 → Stands (opened_session o (chunk_0 img o.place) v name limit budget) (opened_log img columns values)
-  bare_over x made near low high = over_any (λ m file. is_bare img name size o m is file v x made near limit budget some low high)
+  bare_over x made near low high = over_any (λ m file. is_bare img name o m (has_parts img name size o is) file v x made near limit budget some low high)

@@ -32,7 +32,7 @@ abbrev pub read_good : Super → ℕ → List ℕ → Opening × Result HeldInde
 read_good root place img x = IsReadAt img root place (opened_of x.0) (seen view_of x.1)
 
 abbrev pub read_bad : Super → ℕ → List ℕ → OpenError → Type 0
-read_bad root place img e = super_at (range img 0 48) ≡ Ok root → IsUnread img root place e
+read_bad root place img e = (s : Super) → super_at (range img 0 48) ≡ Ok s → IsUnread img root place e
 
 -- a header was found, and the index that it names
 pub record FoundAt (place : ℕ) (img : List ℕ) (x : Opening × Result HeldIndex NoIndex) : Type 0 where

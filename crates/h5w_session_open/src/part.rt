@@ -2,6 +2,7 @@
 ghost use Rattle.std.specs.Prelude.{◌≡◌, ◌⊎◌, ◌^◌, ◌≤◌, false, [], length, IfErr, IfOk, None, OnOk, Ok, Some};
 ghost use Rattle.h5w_model.specs.Numbers.{range};
 ghost use Rattle.h5w_model.specs.Superblock.{super_at, super_bytes};
+ghost use Rattle.h5w_model.specs.declared.root.Super.{Super};
 ghost use Rattle.h5w_found.specs.Ran.{seen};
 ghost use Rattle.h5w_index.specs.Held.{view_of};
 ghost use Rattle.h5w_opening.specs.Openings.{is_open};
@@ -29,8 +30,8 @@ pub fn read_at<I: PieceRead>(
     place: u64,
 ) -> Result<(Opening, Result<Index, NoIndex>), OpenError>
     requires closed { is_open root.flags ≡ false }
-    // Where the image tells its bytes and nobody else writes it: what they have, or, where they begin with this superblock, the first refusal.
-    ensures step { OpenStep (I.view image.old) (I.view image.new) (λ img x. IsReadAt img root place (opened_of x.0) (seen view_of x.1)) (λ img e. super_at (range img 0 48) ≡ Ok root → IsUnread img root place e) result }
+    // Where the image tells its bytes and nobody else writes it: what they have, or, where they begin with a superblock, the first refusal.
+    ensures step { OpenStep (I.view image.old) (I.view image.new) (λ img x. IsReadAt img root place (opened_of x.0) (seen view_of x.1)) (λ img e. (s : Super) → super_at (range img 0 48) ≡ Ok s → IsUnread img root place e) result }
     // On every image.
     ensures well { IfOk result (λ x. IsReadWell (opened_of x.0) (seen view_of x.1)) }
     ensures root { IfOk result (λ x. (opened_of x.0).root ≡ root) }

@@ -20,7 +20,7 @@ returns-in_err-header-clause-step g c =
     let a = c.args in
     let e = c.in_err-header.field-0.0 in
     let is : c.from_residual.result ≡ Err e = search rules in
-    rw is (step_stop (read_good a.root a.place) (read_bad a.root a.place) e (told_step (dataset_found a.place) header_fields_of (Err e) c.in_err-header.ensures.ran c.in_err-header.ensures.kinds) (λ img f h super. no_header f h))
+    rw is (step_stop (read_good a.root a.place) (read_bad a.root a.place) e (told_step (dataset_found a.place) header_fields_of (Err e) c.in_err-header.ensures.ran c.in_err-header.ensures.kinds) (λ img f h s super. no_header f h))
 
 pub index_of-requires : goal.index_of-requires
 index_of-requires g c = record { few = (known_says (header_fields_of c.in_ok-header.header) c.in_ok-header.ensures.said).few }
@@ -33,7 +33,7 @@ returns-in_err-index-clause-step g c =
     let e = c.in_err-index.field-0.0 in
     let is : c.from_residual-in_err-index.result ≡ Err e = search rules in
     rw is (step_then_stop (read_good a.root a.place) (read_bad a.root a.place) h e (told_step (dataset_found a.place) header_fields_of (Ok h) c.in_ok-header.ensures.ran tt) c.in_err-index.ensures.step
-    (λ img said f bad super. bad_index_at img a.root a.place (opened_of o) f said bad))
+    (λ img said f bad s super. bad_index_at img a.root a.place (opened_of o) f said bad))
 
 pub returns-in_err-check_block-clause-step : goal.returns-in_err-check_block-clause-step
 returns-in_err-check_block-clause-step g c =
@@ -45,7 +45,7 @@ returns-in_err-check_block-clause-step g c =
     let both = step_both (FoundAt a.place) (read_bad a.root a.place) h c.in_ok-index.index (o, c.in_ok-index.index) (told_step (dataset_found a.place) header_fields_of (Ok h) c.in_ok-header.ensures.ran tt) c.in_ok-index.ensures.step
     (λ img said index. record { header = said; index = index }) in
     rw is (step_refused (read_good a.root a.place) (read_bad a.root a.place) (o, c.in_ok-index.index) e both (no_block_quiet e c.in_err-check_block.ensures.refused)
-    (λ img f. some_refusal (read_bad a.root a.place img) e (λ super. absurd (lacks_front img (opened_of o) (seen view_of c.in_ok-index.index) (record { closed = c.requires.closed; said = c.in_ok-header.ensures.said }) super f.index c.in_err-check_block.ensures.lacks))))
+    (λ img f. some_refusal (read_bad a.root a.place img) e (λ s super. absurd (lacks_front img s (opened_of o) (seen view_of c.in_ok-index.index) (record { closed = c.requires.closed; said = c.in_ok-header.ensures.said }) super f.index c.in_err-check_block.ensures.lacks))))
 
 pub check_ranges-requires : goal.check_ranges-requires
 check_ranges-requires g c = record { named = c.in_ok-index.ensures.named; few = (known_says (header_fields_of c.in_ok-header.header) c.in_ok-header.ensures.said).few }
@@ -60,7 +60,7 @@ returns-in_err-check_ranges-clause-step g c =
     let both = step_both (FoundAt a.place) (read_bad a.root a.place) h c.in_ok-index.index (o, c.in_ok-index.index) (told_step (dataset_found a.place) header_fields_of (Ok h) c.in_ok-header.ensures.ran tt) c.in_ok-index.ensures.step
     (λ img said index. record { header = said; index = index }) in
     rw is (step_refused (read_good a.root a.place) (read_bad a.root a.place) (o, c.in_ok-index.index) e both (ranges_are_quiet (opened_of o) (seen view_of c.in_ok-index.index) e c.in_err-check_ranges.ensures.first)
-    (λ img f. refusal_map (refusal_of e) (IsUnread img a.root a.place) (read_bad a.root a.place img) (λ x unread super. unread) (bad_ranges_at img a.root a.place (opened_of o) (seen view_of c.in_ok-index.index) e f.header refl f.index c.in_err-check_ranges.ensures.first)))
+    (λ img f. refusal_map (refusal_of e) (IsUnread img a.root a.place) (read_bad a.root a.place img) (λ x unread s super. unread) (bad_ranges_at img a.root a.place (opened_of o) (seen view_of c.in_ok-index.index) e f.header refl f.index c.in_err-check_ranges.ensures.first)))
 
 pub returns-clause-step : goal.returns-clause-step
 returns-clause-step g c =
