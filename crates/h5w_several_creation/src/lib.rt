@@ -10,3 +10,4 @@ mod set;
 
 pub use file::{Creations, closing, create_files};
 pub use h5w_creation::{Fill, Form, IndexKind, IntType};
+pub use root::first_place;

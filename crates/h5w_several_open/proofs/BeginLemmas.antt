@@ -33,7 +33,7 @@ use Rattle.h5w_index.specs.Views.{IndexView, address_in, an_array, a_tree}
 use Rattle.h5w_several_laws.specs.Beside.{own_of}
 use Rattle.h5w_several_laws.specs.Turns.{AreKnown, AreOff, Entry, IsOff, IsOne, all_then, then_as}
 use Rattle.h5w_several_laws.proofs.BesideLemmas.{settled_apart}
-use Rattle.h5w_opening.specs.Openings.{Opened, looked_for, refused_dataset}
+use Rattle.h5w_opening.specs.Openings.{Opened, refused_dataset}
 use Rattle.h5w_session.specs.Openings.{IsOver, flagged_root, opened_log}
 use Rattle.h5w_session.specs.PartLaws.{RunsAs, rooted, super_piece}
 use Rattle.h5w_session.specs.Sessions.{Session}
@@ -46,7 +46,7 @@ use Rattle.h5w_session_open.specs.OpenAnswers.{IsArrayOf, IsEmptyOf, IsIndexOf, 
 use Rattle.h5w_session_open.specs.OpenRanges.{ranges_refused, refused_index, refused_open}
 use Rattle.h5w_session_open.proofs.OpenLineLemmas.{open_few}
 use Rattle.h5w_session_open.proofs.OpenRangeLemmas.{or_none}
-use Rattle.h5w_session_open.proofs.OverFile.{IsFirst, checked, cut_here, dataset_same, is_bare, is_begun, is_over, swmr}
+use Rattle.h5w_session_open.proofs.OverFile.{HasParts, IsFirst, checked, cut_here, dataset_same, has_parts, is_bare, is_begun, is_over, swmr}
 use Rattle.h5w_session_open.proofs.SessionOver.{in_chunk, near_of, some_columns, unrefused_parts}
 use Rattle.h5w_several_open.specs.Answers.{HasBegunWith}
 use Rattle.h5w_several_open.specs.Begins.{BeginsPart, EachBegins, OpensAll, ReadsIt, a_part, no_part}
@@ -56,10 +56,10 @@ use Rattle.h5w_several_open.proofs.DatasetLemmas.{all_apart}
 -- ---- What is known of a session that runs
 
 -- the same told of equal things
-runs_as : (s : Session) (log : Log) (m n : Moment) (a b : Key → ℕ) (h k : List Used) (t x : Space) → RunsAs s [] log m a h t → m ≡ n → a ≡ b → h ≡ k → t ≡ x → RunsAs s [] log n b k x
+pub runs_as : (s : Session) (log : Log) (m n : Moment) (a b : Key → ℕ) (h k : List Used) (t x : Space) → RunsAs s [] log m a h t → m ≡ n → a ≡ b → h ≡ k → t ≡ x → RunsAs s [] log n b k x
 runs_as s log m n a b h k t x r e f g i = record { running = r.running; after = r.after ∙ e; address_is = r.address_is ∙ f; held_is = r.held_is ∙ g; rest_is = r.rest_is ∙ i }
 
-known_of : (s : Session) (log : Log) (m : Moment) (a : Key → ℕ) (h : List Used) (t : Space) → RunsAs s [] log m a h t → KnownHeld (image_now log) s.name m a t h
+pub known_of : (s : Session) (log : Log) (m : Moment) (a : Key → ℕ) (h : List Used) (t : Space) → RunsAs s [] log m a h t → KnownHeld (image_now log) s.name m a t h
 known_of s log m a h t r =
     let q = r.running in
     let all : KnownHeld (image_now log) s.name q.after q.address q.rest q.held = record { knows = q.knows; is = q.holds } in
@@ -69,45 +69,45 @@ known_of s log m a h t r =
 
 -- ---- One dataset
 
-module _ (img name : List ℕ) (size limit budget : ℕ) (o : Opened) (v : IndexView) (is : eval img (looked_for size name) ≡ Ok o) (low : 1024 ≤ limit) (high : limit ≤ 2 ^ 40) where
+module _ (img name : List ℕ) (limit budget : ℕ) (o : Opened) (v : IndexView) (found : HasParts img name o) (low : 1024 ≤ limit) (high : limit ≤ 2 ^ 40) where
   abbrev plain : Session
   plain = session_over o (chunk_0 img o.place) v name limit budget
 
   -- a session over it has what the file has
-  over_by : (a : Result IndexView NoIndex) → IsIndexOf img o.header.dataset a → IsKeptIndexOf o.header.dataset a v → refused_open o a ≡ None → (m : Moment) → Represents img name m → IsOver plain img m
+  pub over_by : (a : Result IndexView NoIndex) → IsIndexOf img o.header.dataset a → IsKeptIndexOf o.header.dataset a v → refused_open o a ≡ None → (m : Moment) → Represents img name m → IsOver plain img m
   over_by (Ok w) x kept none m file =
       let rest = unrefused_parts o (Ok w) none in
       let own : IsIndexOf img o.header.dataset (Ok v) = subst (λ (y : IndexView). IsIndexOf img o.header.dataset (Ok y)) (sym kept) x in
-      is_over img name size o m is file v own (first v own) limit budget (some_columns o rest.dataset) low high
+      is_over img name o m found file v own (first v own) limit budget (some_columns o rest.dataset) low high
     where
       first : (y : IndexView) → IsIndexOf img o.header.dataset (Ok y) → IsFirst o.header.dataset y
       first (an_array y) z =
           let array : IsArrayOf img o.header.dataset y = z in
-          let c = checked img name size o m is file in
+          let c = checked img name o m found file in
           let few : needed m.dataset ≤ limit_of format_limits m.dataset.layout.index = ltb-false (limit_of format_limits m.dataset.layout.index) (needed m.dataset) c.within in
-          open_few o.header.dataset (cut_here img name size o m is file).chunked.rows (subst (λ (d : Described). needed d ≤ limit_of format_limits d.layout.index) (dataset_same img name size o m is file) few) array.kind
+          open_few o.header.dataset (cut_here img name o m found file).chunked.rows (subst (λ (d : Described). needed d ≤ limit_of format_limits d.layout.index) (dataset_same img name o m found file) few) array.kind
       first (a_tree place y) z = tt
   over_by (Err Unnamed) x kept none m file =
       let rest = unrefused_parts o (Err Unnamed) none in
-      is_begun img name size o m is file v x kept (in_chunk o x rest.dataset) limit budget (some_columns o rest.dataset) low high
+      is_begun img name o m found file v x kept (in_chunk o x rest.dataset) limit budget (some_columns o rest.dataset) low high
   over_by (Err Empty) x kept none m file =
       let rest = unrefused_parts o (Err Empty) none in
       let here : IsEmptyOf img o.header.dataset = x in
       let near : o.header.dataset.layout.address + 72 < 2 ^ 64 = near_of o (Err Empty) (record { kind = here.kind; named = here.named }) (or_none (ranges_refused o (Err Empty)) (option_or (refused_dataset o) (refused_index o.header.dataset (Err Empty))) none).0 in
-      is_bare img name size o m is file v here kept (omega (arith, near)) limit budget (some_columns o rest.dataset) low high
+      is_bare img name o m found file v here kept (omega (arith, near)) limit budget (some_columns o rest.dataset) low high
   over_by (Err WrongTotals) x kept none m file = let rest = unrefused_parts o (Err WrongTotals) none in absurd (let e = rest.index in cc)
   over_by (Err Unordered) x kept none m file = let rest = unrefused_parts o (Err Unordered) none in absurd (let e = rest.index in cc)
 
 -- what the file has is told of no other
-own_is : (img name : List ℕ) (s : Super) (place : ℕ) (us vs : List Used) → eval img (checked_root name s) ≡ Ok (place, us) → eval img (checked_root name s) ≡ Ok (place, vs) → us ≡ vs
+pub own_is : (img name : List ℕ) (s : Super) (place : ℕ) (us vs : List Used) → eval img (checked_root name s) ≡ Ok (place, us) → eval img (checked_root name s) ≡ Ok (place, vs) → us ≡ vs
 own_is img name s place us vs h g = (root_places place place us vs (sym h ∙ g)).1
 
-off_own : (img name : List ℕ) (m : Moment) → (file : Represents img name m) → OffAll m.behind file.root.own
+pub off_own : (img name : List ℕ) (m : Moment) → (file : Represents img name m) → OffAll m.behind file.root.own
 off_own img name m file u v a b =
     let among : Among v (the_superblock ∷ m.root) = inr (subst (λ (us : List Used). Among v us) (sym file.root.is) (among_left v file.root.own file.root.others b)) in
     apart_sym v u (disjoint_apart (the_superblock ∷ m.root) (own_of m) v u file.apart among (among_right u m.header (m.fixed ++ m.behind) (among_right u m.fixed m.behind a)))
 
-live_own : (img name : List ℕ) (m : Moment) (t : Space) → (file : Represents img name m) → AllLive t (all_used m) → AllLive t file.root.own
+pub live_own : (img name : List ℕ) (m : Moment) (t : Space) → (file : Represents img name m) → AllLive t (all_used m) → AllLive t file.root.own
 live_own img name m t file live u a = live u (in_root m u (subst (λ (us : List Used). Among u us) (sym file.root.is) (among_left u file.root.own file.root.others a)))
 
 module _ (img name : List ℕ) (b : Begun) (s : Session) (size limit budget : ℕ) (sm : Summary) (valid : Valid img name sm) (reads : ReadsIt img name b) (opened : IsOpenedOver img size name limit budget s) (low : 1024 ≤ limit) (high : limit ≤ 2 ^ 40)
@@ -133,7 +133,7 @@ module _ (img name : List ℕ) (b : Begun) (s : Session) (size limit budget : �
   columns : 0 < b.columns
   columns =
       let first = opens img name reads.0 b.columns b.values sm valid reads.1 in
-      let same : o.header.dataset.shape.cols ≡ b.columns = ap (λ (d : Described). d.shape.cols) (sym (dataset_same img name size o first.0 opened.is first.1)) ∙ first.4 in
+      let same : o.header.dataset.shape.cols ≡ b.columns = ap (λ (d : Described). d.shape.cols) (sym (dataset_same img name o first.0 (has_parts img name size o opened.is) first.1)) ∙ first.4 in
       let some = some_columns o dataset_fit in
       omega (arith, some, same)
 
@@ -152,7 +152,7 @@ module _ (img name : List ℕ) (b : Begun) (s : Session) (size limit budget : �
       let told = part_laws.told u log untold.running (super_piece root ∷ []) root u.places super.0 in
       let e : Entry = record { name = name; moment = n; address = a; held = m.behind } in
       let known : KnownHeld img name n a u.places m.behind = known_of u log n a m.behind u.places untold in
-      let columns_here : 0 < m.dataset.shape.cols = subst (λ (d : Described). 0 < d.shape.cols) (sym (dataset_same img name size o m opened.is file)) (some_columns o dataset_fit) in
+      let columns_here : 0 < m.dataset.shape.cols = subst (λ (d : Described). 0 < d.shape.cols) (sym (dataset_same img name o m (has_parts img name size o opened.is) file)) (some_columns o dataset_fit) in
       let entry : IsEntry img u.places name e = record {
         name_is = refl;
         knows = known.knows;
@@ -176,14 +176,14 @@ module _ (img name : List ℕ) (b : Begun) (s : Session) (size limit budget : �
   pub part_begins : (e : Entry) × BeginsPart img name b s e
   part_begins =
       let k = part_laws.over img name reads.0 b.columns b.values sm valid reads.1 columns in
-      begun_at k.0 k.1 (k.2 u refl (over_by img name size limit budget o opened.kept opened.is low high opened.index opened.is_index opened.is_kept opened.unrefused k.0 k.1))
+      begun_at k.0 k.1 (k.2 u refl (over_by img name limit budget o opened.kept (has_parts img name size o opened.is) low high opened.index opened.is_index opened.is_kept opened.unrefused k.0 k.1))
 
 -- ---- All of them
 
-abbrev HasSummary : List ℕ → List ℕ → Type 0
+abbrev pub HasSummary : List ℕ → List ℕ → Type 0
 HasSummary img name = (sm : Summary) × Valid img name sm
 
-valid_names : (img : List ℕ) (t : AllSummary) (names : List (List ℕ)) (rows : List ℕ) → AllPaired (λ (name : List ℕ) (n : ℕ). (s : Summary) × Valid img name s × IsShare t n s) names rows → AllByRecursion (HasSummary img) names
+pub valid_names : (img : List ℕ) (t : AllSummary) (names : List (List ℕ)) (rows : List ℕ) → AllPaired (λ (name : List ℕ) (n : ℕ). (s : Summary) × Valid img name s × IsShare t n s) names rows → AllByRecursion (HasSummary img) names
 valid_names img t [] rows h = tt
 valid_names img t (name ∷ names) [] h = absurd h
 valid_names img t (name ∷ names) (n ∷ rows) h = ((h.0.0, h.0.1), valid_names img t names rows h.1)

@@ -3,3 +3,6 @@ pub mod OpenLemmas
 pub mod BeginLemmas
 pub mod StandLemmas
 pub mod SessionLemmas
+pub mod BegunLemmas
+pub mod TakeAnswers
+pub mod TakenLemmas

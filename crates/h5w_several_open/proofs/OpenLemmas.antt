@@ -27,12 +27,12 @@ use Rattle.h5w_opening.specs.Views.{opened_of}
 use Rattle.h5w_opening.specs.declared.finding.Opening.{Opening}
 use Rattle.h5w_space.specs.Space.{Space}
 use Rattle.h5w_opening.specs.Errors.{IsOpenKind, refusal_of}
-use Rattle.h5w_opening.specs.Fronts.{FrontFields, front_for, places_by, places_found, unlike}
-use Rattle.h5w_opening.specs.Openings.{Opened, dataset_found, looked_for, place_found, super_found}
+use Rattle.h5w_opening.specs.Fronts.{FrontFields, front_by, front_for, places_by, places_found, unlike}
+use Rattle.h5w_opening.specs.Openings.{Opened, closed_super, dataset_found, looked_for, place_found, super_by, super_found}
 use Rattle.h5w_opening.specs.declared.error.OpenError.{OpenError}
 use Rattle.h5w_opening.specs.declared.error.OpenError.TheVariants.{Failed, Read}
 use Rattle.h5w_opening.proofs.FoundParts.{parts, super_found_by}
-use Rattle.h5w_opening.proofs.FrontLemmas.{front_gives, fronted_by, places_behind}
+use Rattle.h5w_opening.proofs.FrontLemmas.{fronted_by, fronts_give, places_behind}
 use Rattle.h5w_opening.proofs.OpeningLemmas.{behind_place, behind_super, opened_by, opening_gives}
 use Rattle.h5w_session.specs.Sessions.{Session}
 use Rattle.h5w_session_open.specs.declared.index.NoIndex.{NoIndex}
@@ -43,7 +43,7 @@ use Rattle.h5w_session_open.proofs.OpenAnswerLemmas.{own_version}
 use Rattle.h5w_session_open.proofs.OpenStepLemmas.{refusal_map}
 use Rattle.h5w_session_open.proofs.PartLemmas.{kept_at, open_part, read_bad, read_good}
 use Rattle.h5w_several_open.specs.Answers.{CanRead, FirstUnfit, HasBegunWith, HaveBegun, IsFit, IsNotOpenedBy, IsOpenAnswerOf, no_front, unfit, unread}
-use Rattle.h5w_several_open.specs.Progress.{AreTold, IsAnswerBehind, IsPartAt, SoFar, first_refusal, joined, writing_root}
+use Rattle.h5w_several_open.specs.Progress.{ArePartsAnswer, AreSessionsAt, AreTold, IsPartAt, IsRefusedAt, IsSessionAt, SoFar, a_session, first_refusal, joined, no_session, unfit_at, unread_at, writing_root}
 
 -- ---- Lists
 
@@ -52,12 +52,6 @@ paired_more P [] [] x y h p = (p, tt)
 paired_more P [] (z ∷ ys) x y h p = absurd h
 paired_more P (w ∷ xs) [] x y h p = absurd h
 paired_more P (w ∷ xs) (z ∷ ys) x y h p = (h.0, paired_more P xs ys x y h.1 p)
-
-pub paired_at : {A B : Type 0} (P : A → B → Type 0) (xs : List A) (ys : List B) (i : ℕ) (a : A) (b : B) → AllPaired P xs ys → i < length xs → P (get_or xs i a) (get_or ys i b)
-paired_at P [] ys i a b h lt = absurd (omega (arith, lt))
-paired_at P (x ∷ xs) [] i a b h lt = absurd h
-paired_at P (x ∷ xs) (y ∷ ys) zero a b h lt = h.0
-paired_at P (x ∷ xs) (y ∷ ys) (suc i) a b h lt = paired_at P xs ys i a b h.1 (omega (arith, lt))
 
 same_get : {A : Type 0} (xs : List A) (i : ℕ) (a b : A) → i < length xs → get_or xs i a ≡ get_or xs i b
 same_get [] i a b lt = absurd (omega (arith, lt))
@@ -71,9 +65,15 @@ called_by names items i called item e f g lt = e ∙ f ∙ ap (λ (xs : List (Li
 take_length_or : {A : Type 0} (xs : List A) (i : ℕ) → i ≡ length xs → take i xs ≡ xs
 take_length_or xs i e = take_all i xs (omega (arith, e))
 
+-- one session more
+sessions_more : (img : List ℕ) (root : Super) (limit budget : ℕ) (n : List ℕ) (p : ℕ) (s : Session) (names : List (List ℕ)) (places : List ℕ) (ss : List Session) → IsSessionAt img root limit budget n p s → AreSessionsAt img root limit budget names places ss
+    → AreSessionsAt img root limit budget (names ++ n ∷ []) (places ++ p ∷ []) (ss ++ s ∷ [])
+sessions_more img root limit budget n p s _ _ _ x no_session = a_session n p s [] [] [] x no_session
+sessions_more img root limit budget n p s _ _ _ x (a_session m q t names places ss y rest) = a_session m q t (names ++ n ∷ []) (places ++ p ∷ []) (ss ++ s ∷ []) y (sessions_more img root limit budget n p s names places ss x rest)
+
 -- ---- What the front tells of each name
 
-abbrev IsLinked : List FoundMessage → List ℕ → ℕ → Type 0
+abbrev pub IsLinked : List FoundMessage → List ℕ → ℕ → Type 0
 IsLinked ms name place = linked name ms ≡ Ok place
 
 abbrev as_places : List ℕ → Result (List ℕ) ReadError
@@ -90,9 +90,9 @@ unlike_same : (places ps : List ℕ) (o : Option (ℕ × ℕ)) → unlike places
 unlike_same places ps None h = same_value {E = OpenError} places ps h
 unlike_same places ps (Some same) h = absurd cc
 
--- the superblock and the places of the front
-pub record IsFront (img : List ℕ) (size : ℕ) (root : Super) (names : List (List ℕ)) (places : List ℕ) : Type 0 where
-  pub super : super_found size img ≡ Ok root
+-- the superblock and the places of the front, where the superblock is tested so
+pub record IsFront (tested : Super → Result Super OpenError) (img : List ℕ) (root : Super) (names : List (List ℕ)) (places : List ℕ) : Type 0 where
+  pub super : super_by tested img ≡ Ok root
   pub header : HeaderFields
   pub read : eval img (root_header_for true root.root) ≡ Ok header
   pub each : AllPaired (IsLinked header.messages) names places
@@ -103,9 +103,9 @@ as_front f = Ok f
 same_front : (f g : FrontFields) → as_front f ≡ as_front g → f ≡ g
 same_front f g h = cc
 
-pub front_tells : (img : List ℕ) (size : ℕ) (root : Super) (names : List (List ℕ)) (places : List ℕ) → eval img (front_for size names) ≡ Ok (record { root = root; places = places }) → IsFront img size root names places
-front_tells img size root names places h =
-    let t = then_ok (super_found size img) (places_behind names img) (record { root = root; places = places }) (sym (front_gives img names size) ∙ h) in
+pub fronts_tell : (tested : Super → Result Super OpenError) (img : List ℕ) (root : Super) (names : List (List ℕ)) (places : List ℕ) → eval img (front_by tested names) ≡ Ok (record { root = root; places = places }) → IsFront tested img root names places
+fronts_tell tested img root names places h =
+    let t = then_ok (super_by tested img) (places_behind names img) (record { root = root; places = places }) (sym (fronts_give tested img names) ∙ h) in
     let u = then_ok (places_found names t.0.root img) (fronted_by t.0) (record { root = root; places = places }) t.2 in
     let r = then_ok (refused_as Read (eval img (root_header_for true t.0.root))) (λ (x : HeaderFields). places_by names x.messages) u.0 u.1 in
     let l = then_ok (refused_as Read (all_linked names r.0.messages)) (λ ps. unlike ps (same_link ps)) u.0 r.2 in
@@ -113,8 +113,11 @@ front_tells img size root names places h =
     let same : l.0 ≡ u.0 = unlike_same l.0 u.0 (same_link l.0) l.2 in
     let made : FrontFields = record { root = t.0; places = u.0 } in
     let is : made ≡ record { root = root; places = places } = same_front made (record { root = root; places = places }) u.2 in
-    subst (λ (f : FrontFields). IsFront img size f.root names f.places) is
+    subst (λ (f : FrontFields). IsFront tested img f.root names f.places) is
     (record { super = t.1; header = r.0; read = refused_ok Read (eval img (root_header_for true t.0.root)) r.0 r.1; each = subst (AllPaired (IsLinked r.0.messages) names) same all })
+
+pub front_tells : (img : List ℕ) (size : ℕ) (root : Super) (names : List (List ℕ)) (places : List ℕ) → eval img (front_for size names) ≡ Ok (record { root = root; places = places }) → IsFront (closed_super size) img root names places
+front_tells img size root names places h = fronts_tell (closed_super size) img root names places h
 
 -- all that is looked at by one of the names is its dataset header, behind the front
 pub looked_at : (img : List ℕ) (size : ℕ) (root : Super) (name : List ℕ) (place : ℕ) (h : HeaderFields) → super_found size img ≡ Ok root → eval img (root_header_for true root.root) ≡ Ok h → linked name h.messages ≡ Ok place
@@ -149,7 +152,7 @@ opened_one img size root name place limit budget o a s looked read over =
 pub part_step : {v w x : ImageView} (root : Super) (place : ℕ) (name : List ℕ) (limit budget : ℕ) (found : Opening) (index : Result HeldIndex NoIndex) (r : Result Session OpenError)
     → OpenStep v w (read_good root place) (read_bad root place) (Ok (found, index))
     → OpenStep w x (λ img s. IsPartOver img (opened_of found) (seen view_of index) name limit budget s) (λ img e. IsUnfit img (opened_of found) (seen view_of index) e) r
-    → OpenStep v x (λ img t. IsPartAt img root place name limit budget t) (λ img e. super_at (range img 0 48) ≡ Ok root → IsUnread img root place e) (Ok r)
+    → OpenStep v x (λ img t. IsPartAt img root place name limit budget t) (λ img e. (s : Super) → super_at (range img 0 48) ≡ Ok s → IsUnread img root place e) (Ok r)
 part_step root place name limit budget found index r one two = record {
   looked = looked_twice one.looked two.looked;
   cause = λ e. absurd cc;
@@ -188,11 +191,7 @@ root_stands img size root h = (super_found_by img size root h).read
 
 module _ (v : ImageView) (root : Super) (names : List (List ℕ)) (places : List ℕ) (limit budget : ℕ) where
   pub begins : SoFar v v root names places limit budget 0 None []
-  begins = record { looked = looked_itself v; cause = λ e. absurd cc; kinds = tt; begun = λ e. tt; exact = λ img size still front. (tt, (tt, tt)) }
-
-  -- the first refusal, with one more dataset
-  kept_first : (img : List ℕ) (size : ℕ) (i : ℕ) (e : OpenError) (ss : List Session) (r : Result Session OpenError) → IfRefusal (refusal_of e) (FirstUnfit img root places) → AreTold img size root names places limit budget (i + 1) (first_refusal (Some e) r) (joined ss r)
-  kept_first img size i e ss r h = h
+  begins = record { looked = looked_itself v; cause = λ e. absurd cc; kinds = tt; begun = λ e. tt; exact = λ img still. (tt, (no_session, tt)) }
 
   module _ (w x : ImageView) (i : ℕ) (inside : i < length names) (same : length places ≡ length names) where
     abbrev name : List ℕ
@@ -211,15 +210,16 @@ module _ (v : ImageView) (root : Super) (names : List (List ℕ)) (places : List
     more_places P h p = subst (AllByRecursion P) (sym (take_more places i 0 low)) (all_joined P (take i places) (place ∷ []) h (p, tt))
 
     -- what is told of one more
-    told_more : (img : List ℕ) (size : ℕ) (refused : Option OpenError) (ss : List Session) (r : Result Session OpenError) → IsFront img size root names places → IsPartAt img root place name limit budget r
-        → AreTold img size root names places limit budget i refused ss → AreTold img size root names places limit budget (i + 1) (first_refusal refused r) (joined ss r)
-    told_more img size (Some e) ss r front part h = h
-    told_more img size None ss (Ok s) front part h =
-        let looked = looked_at img size root name place front.header front.super front.read (paired_at (IsLinked front.header.messages) names places i [] 0 front.each inside) in (
-          more_names ss s (λ n t. IsOpenedOver img size n limit budget t) h.0 (opened_one img size root name place limit budget part.found part.index s looked part.read part.says),
-          more_places (IsFit img root) h.1 (record { found = part.found; index = part.index; read = part.read; fit = part.says.fit }),
-        )
-    told_more img size None ss (Err e) front part h =
+    told_more : (img : List ℕ) (refused : Option OpenError) (ss : List Session) (r : Result Session OpenError) → IsPartAt img root place name limit budget r → AreTold img root names places limit budget i refused ss
+        → AreTold img root names places limit budget (i + 1) (first_refusal refused r) (joined ss r)
+    told_more img (Some e) ss r part h = h
+    told_more img None ss (Ok s) part h = (
+      subst (λ (ns : List (List ℕ)). AreSessionsAt img root limit budget ns (take (i + 1) places) (ss ++ s ∷ [])) (sym (take_more names i [] inside))
+          (subst (λ (ps : List ℕ). AreSessionsAt img root limit budget (take i names ++ name ∷ []) ps (ss ++ s ∷ [])) (sym (take_more places i 0 low))
+          (sessions_more img root limit budget name place s (take i names) (take i places) ss (record { found = part.found; index = part.index; read = part.read; over = part.says }) h.0)),
+      more_places (IsFit img root) h.1 (record { found = part.found; index = part.index; read = part.read; fit = part.says.fit }),
+    )
+    told_more img None ss (Err e) part h =
         refusal_map (refusal_of e) (λ f. refused_part part.found part.index ≡ Some f) (FirstUnfit img root places) (λ f why. record { number = i; inside = low; before = h.1; found = part.found; index = part.index; read = part.read; why = why }) part.says
 
     so_cause : (refused : Option OpenError) (r : Result Session OpenError) → (refused ≡ Some Failed → Rose v.faults w.faults) → (r ≡ Err Failed → Rose w.faults x.faults) → Looked v w → Looked w x → first_refusal refused r ≡ Some Failed → Rose v.faults x.faults
@@ -245,7 +245,7 @@ module _ (v : ImageView) (root : Super) (names : List (List ℕ)) (places : List
       Part n img t = IsPartAt img root place n limit budget t
 
       abbrev Bad : List ℕ → OpenError → Type 0
-      Bad img e = super_at (range img 0 48) ≡ Ok root → IsUnread img root place e
+      Bad img e = (s : Super) → super_at (range img 0 48) ≡ Ok s → IsUnread img root place e
 
       pub goes_on : (refused : Option OpenError) (ss : List Session) (r : Result Session OpenError) → SoFar v w root names places limit budget i refused ss → OpenStep w x (Part called) Bad (Ok r)
           → (r ≡ Err Failed → Rose w.faults x.faults) → IfErr r IsOpenKind → IfOk r (HasBegunWith limit budget (writing_root root) called)
@@ -255,21 +255,19 @@ module _ (v : ImageView) (root : Super) (names : List (List ℕ)) (places : List
         cause = so_cause refused r so.cause cause so.looked step.looked;
         kinds = so_kinds refused r so.kinds kinds;
         begun = so_begun refused ss r so.begun (subst (λ (n : List ℕ). IfOk r (HasBegunWith limit budget (writing_root root) n)) is begun);
-        exact = λ img size still front.
-            let h = so.exact img size still front in
+        exact = λ img still.
+            let h = so.exact img still in
             let part = subst (λ (n : List ℕ). Part n img r) is (step.exact img (still_on img so.looked still)) in (
               more_places (CanRead img root) h.0 (record { found = part.found; index = part.index; read = part.read }),
-              told_more img size refused ss r (front_tells img size root names places front) part h.1,
+              told_more img refused ss r part h.1,
             );
       }
 
       pub stops : (refused : Option OpenError) (ss : List Session) (e : OpenError) → SoFar v w root names places limit budget i refused ss → OpenStep {A = Result Session OpenError} w x (Part called) Bad (Err e)
-          → (img : List ℕ) (size : ℕ) → IsStill v img → IsAnswerBehind img size root names places limit budget (Err e)
-      stops refused ss e so step img size still front =
-          let h = so.exact img size still front in
-          let f = front_tells img size root names places front in
-          refusal_map (refusal_of e) (Bad img) (IsNotOpenedBy img size names)
-          (λ g bad. unread (record { root = root; places = places }) g front (record { number = i; inside = low; before = h.0; why = bad (root_stands img size root f.super) })) (step.exact img (still_on img so.looked still))
+          → (img : List ℕ) → IsStill v img → ArePartsAnswer img root names places limit budget (Err e)
+      stops refused ss e so step img still = λ s super.
+          let h = so.exact img still in
+          refusal_map (refusal_of e) (Bad img) (IsRefusedAt img root places) (λ g bad. unread_at g (record { number = i; inside = low; before = h.0; why = bad s super })) (step.exact img (still_on img so.looked still))
 
   -- all datasets were read
   module _ (w : ImageView) (i : ℕ) (end : i ≡ length names) (same : length places ≡ length names) where
@@ -279,18 +277,19 @@ module _ (v : ImageView) (root : Super) (names : List (List ℕ)) (places : List
     all_places : take i places ≡ places
     all_places = take_length_or places i (omega (arith, end, same))
 
-    pub ends_well : (ss : List Session) → SoFar v w root names places limit budget i None ss → (img : List ℕ) (size : ℕ) → IsStill v img → IsAnswerBehind img size root names places limit budget (Ok ss)
-    ends_well ss so img size still front =
-        let h = so.exact img size still front in
-        record { front = record { root = root; places = places }; is = front; each = subst (λ (ns : List (List ℕ)). AllPaired (λ (n : List ℕ) (s : Session). IsOpenedOver img size n limit budget s) ns ss) all_names h.1.0 }
+    pub ends_well : (ss : List Session) → SoFar v w root names places limit budget i None ss → (img : List ℕ) → IsStill v img → ArePartsAnswer img root names places limit budget (Ok ss)
+    ends_well ss so img still =
+        subst (λ (ns : List (List ℕ)). AreSessionsAt img root limit budget ns places ss) all_names (subst (λ (ps : List ℕ). AreSessionsAt img root limit budget (take i names) ps ss) all_places (so.exact img still).1.0)
 
-    pub ends_unfit : (ss : List Session) (e : OpenError) → SoFar v w root names places limit budget i (Some e) ss → (img : List ℕ) (size : ℕ) → IsStill v img → IsAnswerBehind img size root names places limit budget (Err e)
-    ends_unfit ss e so img size still front =
-        let h = so.exact img size still front in
-        refusal_map (refusal_of e) (FirstUnfit img root places) (IsNotOpenedBy img size names) (λ f why. unfit (record { root = root; places = places }) f front (subst (AllByRecursion (CanRead img root)) all_places h.0) why) h.1
+    pub ends_unfit : (ss : List Session) (e : OpenError) → SoFar v w root names places limit budget i (Some e) ss → (img : List ℕ) → IsStill v img → ArePartsAnswer img root names places limit budget (Err e)
+    ends_unfit ss e so img still = λ s super.
+        let h = so.exact img still in
+        refusal_map (refusal_of e) (FirstUnfit img root places) (IsRefusedAt img root places) (λ f why. unfit_at f (subst (AllByRecursion (CanRead img root)) all_places h.0) why) h.1
 
     pub have_begun : (ss : List Session) → SoFar v w root names places limit budget i None ss → HaveBegun names limit budget ss
     have_begun ss so = record { root = writing_root root; version = refl; each = subst (λ (ns : List (List ℕ)). AllPaired (HasBegunWith limit budget (writing_root root)) ns ss) all_names (so.begun refl) }
+
+-- ---- The file that is opened by all of them
 
 -- the front refuses it
 pub no_front_answer : (img : List ℕ) (size : ℕ) (names : List (List ℕ)) (limit budget : ℕ) (e : OpenError) → Refuses (eval img (front_for size names)) (refusal_of e) → IsOpenAnswerOf img size names limit budget (Err e)
@@ -299,3 +298,25 @@ no_front_answer img size names limit budget e h = by (refusal_of e) h
     by : (o : Option OpenError) → Refuses (eval img (front_for size names)) o → IfRefusal o (IsNotOpenedBy img size names)
     by (Some f) given = no_front f given
     by None given = tt
+
+-- each is what is opened by its name
+opened_each : (img : List ℕ) (size : ℕ) (root : Super) (limit budget : ℕ) (h : HeaderFields) (names : List (List ℕ)) (places : List ℕ) (ss : List Session) → super_found size img ≡ Ok root → eval img (root_header_for true root.root) ≡ Ok h
+    → AllPaired (IsLinked h.messages) names places → AreSessionsAt img root limit budget names places ss → AllPaired (λ (name : List ℕ) (s : Session). IsOpenedOver img size name limit budget s) names ss
+opened_each img size root limit budget h _ _ _ super read links no_session = tt
+opened_each img size root limit budget h _ _ _ super read links (a_session name place s names places ss x rest) = (
+  opened_one img size root name place limit budget x.found x.index s (looked_at img size root name place h super read links.0) x.read x.over,
+  opened_each img size root limit budget h names places ss super read links.1 rest,
+)
+
+pub open_answer : (img : List ℕ) (size : ℕ) (names : List (List ℕ)) (limit budget : ℕ) (root : Super) (places : List ℕ) (r : Result (List Session) OpenError) → eval img (front_for size names) ≡ Ok (record { root = root; places = places })
+    → ArePartsAnswer img root names places limit budget r → IsOpenAnswerOf img size names limit budget r
+open_answer img size names limit budget root places (Ok ss) is x =
+    let f = front_tells img size root names places is in
+    record { front = record { root = root; places = places }; is = is; each = opened_each img size root limit budget f.header names places ss f.super f.read f.each x }
+open_answer img size names limit budget root places (Err e) is x =
+    let f = front_tells img size root names places is in
+    refusal_map (refusal_of e) (IsRefusedAt img root places) (IsNotOpenedBy img size names) why (x root (root_stands img size root f.super))
+  where
+    why : (g : OpenError) → IsRefusedAt img root places g → IsNotOpenedBy img size names g
+    why g (unread_at _ u) = unread (record { root = root; places = places }) g is u
+    why g (unfit_at _ all u) = unfit (record { root = root; places = places }) g is all u

@@ -1,11 +1,11 @@
 -- One session over the datasets of a file that is opened by several names.
-use Rattle.std.proofs.Common.{◌≡◌, ℕ, ◌+◌, ◌<◌, ◌≤◌, List, [], ◌∷◌, get_or, length, refl, sym, ap, ◌∙◌, subst, arith}
+use Rattle.std.proofs.Common.{◌≡◌, ℕ, ◌≤◌, List, [], ◌∷◌, get_or, length, refl, ap, arith}
 use Rattle.h5w_model.specs.Relations.{AllPaired}
 use Rattle.h5w_model.specs.declared.root.Super.{Super}
 use Rattle.h5w_space.specs.Space.{Space}
 use Rattle.h5w_session.specs.PartLaws.{super_piece}
 use Rattle.h5w_session.specs.Sessions.{Session}
-use Rattle.h5w_several_session.specs.Opened.{AreOpened, IsOpened}
+use Rattle.h5w_several_session.specs.Opened.{AreOpened}
 use Rattle.h5w_several_open.specs.Answers.{HasBegunWith}
 
 -- there is one of each
@@ -29,3 +29,9 @@ pub first_root : (limit budget : ℕ) (root : Super) (names : List (List ℕ)) (
 first_root limit budget root names [] s some h = absurd (omega (arith, some))
 first_root limit budget root [] (x ∷ ss) s some h = absurd h
 first_root limit budget root (name ∷ names) (x ∷ ss) s some h = let w : HasBegunWith limit budget root name x = h.0 in w.root_is
+
+-- a file ends behind it
+pub first_long : (limit budget : ℕ) (root : Super) (names : List (List ℕ)) (ss : List Session) → 1 ≤ length ss → AllPaired (HasBegunWith limit budget root) names ss → 48 ≤ root.end
+first_long limit budget root names [] some h = absurd (omega (arith, some))
+first_long limit budget root [] (x ∷ ss) some h = absurd h
+first_long limit budget root (name ∷ names) (x ∷ ss) some h = let w : HasBegunWith limit budget root name x = h.0 in w.long

@@ -1,5 +1,5 @@
 -- A session of several datasets that was opened over a file that is valid for all of them stands for its log.
-use Rattle.std.proofs.Common.{◌≡◌, ◌≢◌, ℕ, suc, ◌≤◌, List, [], ◌∷◌, ◌++◌, length, refl, sym, ap, ◌∙◌, subst, inl, inr, arith, append-nil}
+use Rattle.std.proofs.Common.{◌≡◌, ◌≢◌, ℕ, suc, ◌≤◌, List, [], ◌∷◌, ◌++◌, length, Ok, refl, sym, ap, ◌∙◌, subst, inl, inr, arith, append-nil}
 use Rattle.h5w_model.specs.Images.{image}
 use Rattle.h5w_model.specs.Findings.{Used}
 use Rattle.h5w_model.specs.Logs.{Log}
@@ -15,12 +15,13 @@ use Rattle.h5w_space.specs.Space.{Space}
 use Rattle.h5w_several_laws.specs.Together.{IsAllValid, names_of}
 use Rattle.h5w_several_laws.specs.Turns.{AreKnown, Entry, all_then, then_as}
 use Rattle.h5w_opening.proofs.FoundParts.{parts}
-use Rattle.h5w_session.specs.Loads.{end_in}
+use Rattle.h5w_session.specs.Loads.{end_in, first_end_of}
 use Rattle.h5w_session.specs.Openings.{opened_log}
 use Rattle.h5w_session.specs.PartLaws.{RunsAs, super_piece}
 use Rattle.h5w_session.specs.Sessions.{Session, AllEndBy as WritesEndBy}
 use Rattle.h5w_session.specs.Told.{told_log}
 use Rattle.h5w_session_open.specs.OpenAnswers.{IsOpenedOver}
+use Rattle.h5w_several_session_laws.specs.Began.{IsAmple, began_end, end_among}
 use Rattle.h5w_several_session_laws.specs.Seen.{IsSeen}
 use Rattle.h5w_several_session_laws.specs.Sessions.{all_pending}
 use Rattle.h5w_several_session_laws.specs.Standing.{AreStandingParts, IsDone, IsStandingPart, most_in}
@@ -34,11 +35,21 @@ use Rattle.h5w_several_session.specs.Opened.{places_from, rested, sessions_over,
 use Rattle.h5w_several_open.specs.Stands.{OpensStanding, opened_file}
 use Rattle.h5w_several_open.proofs.BeginLemmas.{opens_all}
 
-none_rested : (root : Super) (t : Space) (ss : List Session) → all_pending (rested root t ss) ≡ []
+pub none_rested : (root : Super) (t : Space) (ss : List Session) → all_pending (rested root t ss) ≡ []
 none_rested root t [] = refl
 none_rested root t (s ∷ ss) = none_rested root t ss
 
-module _ (img : List ℕ) (limit budget : ℕ) (root : Super) (ranges : List Used) (all : List Begun) (left : List Write) (left_is : left ≡ super_piece root ∷ []) where
+-- the file's superblock before ends where the written one does
+record BeganAt (img : List ℕ) (root : Super) : Type 0 where
+  was : Super
+  is : super_at (range img 0 48) ≡ Ok was
+  end : was.end ≡ root.end
+
+-- the log of a part ends where that of the file does
+pub opened_end : (img : List ℕ) (sets : List Begun) (b : Begun) (was : Super) → super_at (range img 0 48) ≡ Ok was → first_end_of (opened_log img b.columns b.values) ≡ began_end (opened_file img sets)
+opened_end img sets b was is = ap end_in is ∙ sym (ap (end_among (length sets)) is)
+
+module _ (img : List ℕ) (limit budget : ℕ) (root : Super) (ranges : List Used) (all : List Begun) (left : List Write) (left_is : left ≡ super_piece root ∷ []) (at : BeganAt img root) where
   abbrev t : Space
   t = places_from root.end limit
 
@@ -51,7 +62,7 @@ module _ (img : List ℕ) (limit budget : ℕ) (root : Super) (ranges : List Use
   part d b name s e before behind pending p w =
       let own : Log = told_log p.times (super_piece root ∷ []) (opened_log img b.columns b.values) in
       let named : name ≡ s.name = sym w.begun.named in
-      let seen : IsSeen log d b own left = subst (IsSeen log d b own) (sym left_is) (seen_opened img all d b p.times (super_piece root ∷ [])) in
+      let seen : IsSeen log d b own left = subst (IsSeen log d b own) (sym left_is) (seen_opened img all d b p.times (super_piece root ∷ []) (opened_end img all b at.was at.is)) in
       let by_root : RunsAs (record s { root = root; pending = [] }) [] own (then_as root e).moment e.address e.held s.places =
       subst (λ (x : Super). RunsAs (record s { root = x; pending = [] }) [] (told_log p.times (super_piece x ∷ []) (opened_log img b.columns b.values)) (then_as x e).moment e.address e.held s.places) w.root_is p.runs in
       let runs : RunsAs (record s { root = root; places = t; pending = [] }) [] own (then_as root e).moment e.address e.held t =
@@ -75,7 +86,7 @@ module _ (img : List ℕ) (limit budget : ℕ) (root : Super) (ranges : List Use
   first _ _ _ _ no_part h = tt
   first _ _ _ _ (a_part name b s e names bs ss es p rest) h = (part 0 b name s e [] (all_pending (rested root t ss)) s.pending p h.0, later 1 names bs ss es s.pending rest h.1)
 
-pending_of : (limit budget : ℕ) (root : Super) (t : Space) (names : List (List ℕ)) (ss : List Session) → 1 ≤ length ss → AllPaired (HasBegunWith limit budget root) names ss → all_pending (settled root t ss) ≡ super_piece root ∷ []
+pub pending_of : (limit budget : ℕ) (root : Super) (t : Space) (names : List (List ℕ)) (ss : List Session) → 1 ≤ length ss → AllPaired (HasBegunWith limit budget root) names ss → all_pending (settled root t ss) ≡ super_piece root ∷ []
 pending_of limit budget root t names [] some h = absurd (omega (arith, some))
 pending_of limit budget root t [] (s ∷ ss) some h = absurd h
 pending_of limit budget root t (name ∷ names) (s ∷ ss) some h =
@@ -83,14 +94,28 @@ pending_of limit budget root t (name ∷ names) (s ∷ ss) some h =
     ap (λ (ws : List Write). s.pending ++ ws) (none_rested root t ss) ∙ append-nil s.pending ∙ w.begun.pending ∙ ap (λ (x : Super). super_piece x ∷ []) w.root_is
 
 -- the file ends where the superblock says
-end_of : (img : List ℕ) (size limit budget : ℕ) (root : Super) (names : List (List ℕ)) (ss : List Session) → 1 ≤ length ss → AllPaired (λ (name : List ℕ) (s : Session). IsOpenedOver img size name limit budget s) names ss
-    → AllPaired (HasBegunWith limit budget root) names ss → end_in (super_at (range img 0 48)) ≡ root.end
-end_of img size limit budget root names [] some x h = absurd (omega (arith, some))
-end_of img size limit budget root [] (s ∷ ss) some x h = absurd h
-end_of img size limit budget root (name ∷ names) (s ∷ ss) some x h =
+began_at : (img : List ℕ) (size limit budget : ℕ) (root : Super) (names : List (List ℕ)) (ss : List Session) → 1 ≤ length ss → AllPaired (λ (name : List ℕ) (s : Session). IsOpenedOver img size name limit budget s) names ss
+    → AllPaired (HasBegunWith limit budget root) names ss → BeganAt img root
+began_at img size limit budget root names [] some x h = absurd (omega (arith, some))
+began_at img size limit budget root [] (s ∷ ss) some x h = absurd h
+began_at img size limit budget root (name ∷ names) (s ∷ ss) some x h =
     let w : HasBegunWith limit budget root name s = h.0 in
     let o : IsOpenedOver img size name limit budget s = x.0 in
-    ap end_in (parts img size name o.found o.is).super ∙ ap (λ (y : Session). y.root.end) (sym o.session) ∙ ap (λ (y : Super). y.end) w.root_is
+    record { was = o.found.root; is = (parts img size name o.found o.is).super; end = ap (λ (y : Session). y.root.end) (sym o.session) ∙ ap (λ (y : Super). y.end) w.root_is }
+
+pub end_of : (img : List ℕ) (size limit budget : ℕ) (root : Super) (names : List (List ℕ)) (ss : List Session) → 1 ≤ length ss → AllPaired (λ (name : List ℕ) (s : Session). IsOpenedOver img size name limit budget s) names ss
+    → AllPaired (HasBegunWith limit budget root) names ss → (sets : List Begun) → began_end (opened_file img sets) ≡ root.end
+end_of img size limit budget root names ss some x h sets =
+    let at = began_at img size limit budget root names ss some x h in
+    ap (end_among (length sets)) at.is ∙ at.end
+
+-- no bytes are no superblock
+none_read : (s : Super) → super_at (range [] 0 48) ≡ Ok s → ⊥
+none_read s e = cc
+
+-- what a session opens has one
+pub opened_ample : (img : List ℕ) (sets : List Begun) (t : Space) (was : Super) → super_at (range img 0 48) ≡ Ok was → IsAmple t (opened_file img sets)
+opened_ample img sets t was is none = absurd (none_read was (subst (λ (i : List ℕ). super_at (range i 0 48) ≡ Ok was) none is))
 
 -- the names of the entries, of which there are as many as parts
 begun_names : (img : List ℕ) (root : Super) (names : List (List ℕ)) (bs : List Begun) (ss : List Session) (es : List Entry) → EachBegins img names bs ss es → names_of (all_then root es) ≡ names
@@ -108,7 +133,8 @@ opens_standing img size names summary bs ss limit budget root valid reads opened
     let t : Space = places_from root.end limit in
     let left : List Write = all_pending (settled root t ss) in
     let left_is : left ≡ super_piece root ∷ [] = pending_of limit budget root t names ss some begun in
-    let ends_at = end_of img size limit budget root names ss some opened begun in
+    let at = began_at img size limit budget root names ss some opened begun in
+    let ends_at = end_of img size limit budget root names ss some opened begun bs in
     let long = length-super_bytes root in
     let es = all_then root a.entries in
     let named = begun_names img root names bs ss a.entries a.each in
@@ -121,8 +147,9 @@ opens_standing img size names summary bs ss limit budget root valid reads opened
       known = subst (λ (ws : List Write). AreKnown (image img ws) t root a.ranges (all_then root a.entries)) (sym left_is) a.known;
       off = a.off;
       blocks = a.blocks;
-      parts = first img limit budget root a.ranges bs left left_is names bs ss a.entries a.each begun;
+      parts = first img limit budget root a.ranges bs left left_is at names bs ss a.entries a.each begun;
       fits = omega (arith, ends_at);
+      low = opened_ample img bs t at.was at.is;
       ends = subst (λ (ws : List Write). WritesEndBy (most_in t (opened_file img bs)) ws) (sym left_is) (omega (arith, long, low), tt);
       going = refl;
       valid = subst (λ (ws : List Write). AreValidFrom 0 img (names_of es) ws) (sym left_is) stays;

@@ -7,3 +7,4 @@ pub mod Progress
 pub mod Begins
 pub mod Sessions
 pub mod Stands
+pub mod Taken

@@ -4,7 +4,9 @@
 mod laws;
 mod opening;
 mod session;
+mod taking;
 
-pub use laws::{all_apart, all_have, opens_all, opens_standing};
+pub use laws::{all_apart, all_have, opens_all, opens_standing, takes_standing};
 pub use opening::open_parts;
 pub use session::open;
+pub use taking::takeover;

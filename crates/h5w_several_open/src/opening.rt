@@ -4,6 +4,7 @@ ghost use Rattle.std.specs.List.{All};
 ghost use Rattle.h5w_model.specs.Causes.{Rose};
 ghost use Rattle.h5w_model.specs.Numbers.{range};
 ghost use Rattle.h5w_model.specs.Superblock.{super_at};
+ghost use Rattle.h5w_model.specs.declared.root.Super.{Super};
 ghost use Rattle.h5w_image.specs.View.{Looked};
 ghost use Rattle.h5w_looks.specs.Still.{IsStill};
 ghost use Rattle.h5w_found.specs.Ran.{seen};
@@ -12,7 +13,7 @@ ghost use Rattle.h5w_opening.specs.Openings.{is_open};
 ghost use Rattle.h5w_session_open.specs.OpenParts.{IsUnread};
 ghost use Rattle.h5w_session_open.specs.OpenSteps.{OpenStep};
 ghost use Rattle.h5w_several_open.specs.Answers.{HasBegunWith, HaveBegun, IsOpenAnswerOf};
-ghost use Rattle.h5w_several_open.specs.Progress.{IsAnswerBehind, IsPartAt, first_refusal, joined, writing_root};
+ghost use Rattle.h5w_several_open.specs.Progress.{ArePartsAnswer, IsPartAt, first_refusal, joined, writing_root};
 
 use h5w_image::PieceRead;
 use h5w_model::{OutOfMemory, Super};
@@ -37,7 +38,7 @@ fn open_part<I: PieceRead>(
     requires name { length name.now ≤ 512 }
     requires high { limit ≤ 2 ^ 40 }
     requires budget { (1024 ≤ budget) × (budget ≤ 2 ^ 30) }
-    ensures step { OpenStep (I.view image.old) (I.view image.new) (λ img r. IsPartAt img root place name.now limit budget r) (λ img e. super_at (range img 0 48) ≡ Ok root → IsUnread img root place e) result }
+    ensures step { OpenStep (I.view image.old) (I.view image.new) (λ img r. IsPartAt img root place name.now limit budget r) (λ img e. (s : Super) → super_at (range img 0 48) ≡ Ok s → IsUnread img root place e) result }
     ensures cause { IfOk result (λ r. r ≡ Err OpenError.Failed → Rose (I.view image.old).faults (I.view image.new).faults) }
     ensures kinds { IfOk result (λ r. IfErr r IsOpenKind) }
     ensures begun { IfOk result (λ r. IfOk r (HasBegunWith limit budget (writing_root root) name.now)) }
@@ -67,7 +68,7 @@ fn keep(
 }
 
 /// The sessions over the datasets of these names, whose headers stand at these places.
-fn parts_at<I: PieceRead>(
+pub(crate) fn parts_at<I: PieceRead>(
     alloc: Global,
     image: &mut I,
     root: Super,
@@ -84,7 +85,7 @@ fn parts_at<I: PieceRead>(
     ensures looked { Looked (I.view image.old) (I.view image.new) }
     ensures cause { result ≡ Err OpenError.Failed → Rose (I.view image.old).faults (I.view image.new).faults }
     ensures kinds { IfErr result IsOpenKind }
-    ensures exact { (img : List ℕ) (size : ℕ) → IsStill (I.view image.old) img → IsAnswerBehind img size root names.now places.now limit budget (seen (λ v. v.items) result) }
+    ensures exact { (img : List ℕ) → IsStill (I.view image.old) img → ArePartsAnswer img root names.now places.now limit budget (seen (λ v. v.items) result) }
     ensures begun { IfOk result (λ parts. HaveBegun names.now limit budget parts.items) }
 {
     let mut parts = Vec::new(alloc);

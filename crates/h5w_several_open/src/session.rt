@@ -8,6 +8,7 @@ ghost use Rattle.h5w_model.specs.Several.{Begun};
 ghost use Rattle.h5w_image.specs.View.{Looked};
 ghost use Rattle.h5w_looks.specs.Still.{IsStill};
 ghost use Rattle.h5w_opening.specs.Errors.{IsOpenKind};
+ghost use Rattle.h5w_several_session_laws.specs.Bounds.{IsGrown};
 ghost use Rattle.h5w_several_session_laws.specs.Standing.{StandsAll};
 ghost use Rattle.h5w_several_open.specs.Begins.{ReadsIt};
 ghost use Rattle.h5w_several_open.specs.Sessions.{HasBegunAll, IsSessionAnswer};
@@ -49,6 +50,8 @@ pub fn open<I: PieceRead>(
     ensures begun { IfOk result (HasBegunAll names.now limit budget) }
     // where the file is valid for all names, the session stands for the log over it to which nothing happened yet
     ensures stands { IfOk result (λ s. (img : List ℕ) (t : AllSummary) (sets : List Begun) → IsStill (I.view image.old) img → AllValid img names.now t → AllPaired (ReadsIt img) names.now sets → StandsAll s (opened_file img sets)) }
+    // the log has room for where the file ends
+    ensures grown { IfOk result (λ s. (img : List ℕ) (sets : List Begun) → IsStill (I.view image.old) img → IsGrown s (opened_file img sets)) }
 {
     let parts = open_parts(alloc, image, size, names, limit, budget)?;
     let root = parts[0].root();

@@ -7,7 +7,7 @@ use Rattle.h5w_space.specs.Space.{Space}
 use Rattle.h5w_image.specs.View.{ImageView}
 use Rattle.h5w_session.specs.Room.{HasRoomFor}
 use Rattle.h5w_session.specs.Sessions.{IsSession, Session, rows_of, with_values}
-use Rattle.h5w_several_session.specs.Opened.{AreOpened, places_from, rested, sessions_over, settled}
+use Rattle.h5w_several_session.specs.Opened.{AreOpened, places_from, rested, sessions_at_rest, sessions_over, settled}
 use Rattle.h5w_several_session.specs.Parts.{AllSessions, AreCounted}
 use Rattle.h5w_several_session.specs.Refusals.{HasRoomForAll}
 use Rattle.h5w_several_session_laws.specs.Sessions.{AppendsTo, AreFlushed, AreParts, AreSameBut, AreShown, IsPart, Sessions, all_pending, closed_all, closed_parts, closed_super, keeping, stopped_all}
@@ -108,11 +108,6 @@ counted_flushed S root t us k f are version limit few =
 
 -- ---- After calls that may be refused
 
--- of a refusal alone
-pub any_err : {T E P : Type 0} (r : Result T E) → P → OnErr r P
-any_err (Ok x) p = tt
-any_err (Err e) p = p
-
 -- the parts as the list has them that was lent
 pub back : {A : Type 0} (len : ℕ) (us ss : List A) → length us ≡ length ss → len ≡ length ss → take len (us ++ drop (length us) ss) ≡ us
 back len us ss same is = take-append-le len us (drop (length us) ss) (omega (arith, same, is)) ∙ take_all len us (omega (arith, same, is))
@@ -190,7 +185,7 @@ module _ (root : Super) (limit : ℕ) where
       let one = ap (λ (ws : List Write). length ws) opened.0.pending in
       omega (arith, length-append s.pending (all_pending (rested root from ss)), none, one)
 
-  rested_length : (ss : List Session) → length (rested root from ss) ≡ length ss
+  pub rested_length : (ss : List Session) → length (rested root from ss) ≡ length ss
   rested_length [] = refl
   rested_length (s ∷ ss) = ap suc (rested_length ss)
 
@@ -208,4 +203,25 @@ module _ (root : Super) (limit : ℕ) where
       record {
         sessions = record { some = omega (arith, some, long); few = omega (arith, few, long); version = version; small = settled_small ss some are; limit = high; each = settled_parts ss ss opened are };
         few = omega (arith, settled_few ss opened);
+      }
+
+  rested_small : (ss : List Session) → 1 ≤ length ss → AllSessions (rested root from ss) → root.end < 2 ^ 64
+  rested_small [] some are = absurd (omega arith)
+  rested_small (s ∷ ss) some are = are.0.small
+
+  pub counted_at_rest : (ss : List Session) → 1 ≤ length ss → length ss ≤ 8 → AreOpened root.end ss → root.version ≡ 3 → limit ≤ 2 ^ 40 → AllSessions (rested root from ss) → AreCounted (sessions_at_rest root limit ss)
+  counted_at_rest ss some few opened version high are =
+      let us = rested root from ss in
+      let long = rested_length ss in
+      let none = ap (λ (ws : List Write). length ws) (rested_none ss) in
+      record {
+        sessions = record {
+          some = omega (arith, some, long);
+          few = omega (arith, few, long);
+          version = version;
+          small = rested_small ss some are;
+          limit = high;
+          each = parts_like (over ss) (sessions_at_rest root limit ss) us refl refl refl refl (rested_parts ss ss opened are);
+        };
+        few = omega (arith, none);
       }

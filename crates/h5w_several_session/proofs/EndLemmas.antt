@@ -1,11 +1,9 @@
 -- A session of several datasets appends to one of them, is stopped, or is closed.
-use Rattle.std.proofs.Common.{◌≡◌, ◌<◌, ◌≤◌, ◌++◌, ℕ, true, false, List, [], ◌∷◌, ℤ, length, map, Some, slice_get, slice_set, slice_index_or, refl, sym, ap, subst, ◌∙◌, zero, suc, arith, length-append}
+use Rattle.std.proofs.Common.{◌≡◌, ◌<◌, ◌≤◌, ◌++◌, ℕ, true, false, List, [], ◌∷◌, ℤ, length, map, Some, slice_get, slice_set, slice_index_or, refl, sym, ap, subst, ◌∙◌, zero, suc, arith}
 use Rattle.h5w_model.specs.Superblock.{super_bytes}
 use Rattle.h5w_model.specs.declared.piece.Write.{Write}
 use Rattle.h5w_model.specs.declared.root.Super.{Super}
-use Rattle.h5w_space.specs.Space.{Space}
 use Rattle.h5w_session.specs.Sessions.{IsSession, Session, cleared, closed_of, closed_root, stopped_of, with_values}
-use Rattle.h5w_session.specs.Told.{told_of}
 use Rattle.h5w_session.specs.Refusals.{append_refusal}
 use Rattle.h5w_session.proofs.StateLemmas.{idle_unplanned, still_is}
 use Rattle.h5w_several_session.specs.Opened.{places_from}
@@ -44,12 +42,6 @@ pub get_set : (ss : List Session) (d : ℕ) (u : Session) → d < length ss → 
 get_set [] d u inside = absurd (omega arith)
 get_set (x ∷ xs) zero u inside = refl
 get_set (x ∷ xs) (suc d) u inside = get_set xs d u (omega arith)
-
--- nothing is pending in any
-pub none_in : (ss : List Session) (d : ℕ) (s : Session) → slice_get ss d ≡ Some s → length (all_pending ss) ≡ 0 → length s.pending ≡ 0
-none_in [] d s at none = absurd cc
-none_in (x ∷ xs) zero s at none = let is : x ≡ s = cc in omega (arith, length-append x.pending (all_pending xs), none, ap (λ (v : Session). length v.pending) is)
-none_in (x ∷ xs) (suc d) s at none = none_in xs d s at (omega (arith, length-append x.pending (all_pending xs), none))
 
 -- the values of one of them wait
 pub added_part : (S : Sessions) (s u : Session) (values : List ℤ) → IsPart S s → IsSession u → u ≡ with_values s values → IsPart S u
@@ -95,10 +87,6 @@ pub ended_parts : (S : Sessions) (e limit : ℕ) (ss : List Session) → e ≡ S
 ended_parts S e limit [] e_is limit_is parts = tt
 ended_parts S e limit (s ∷ ss) e_is limit_is parts = (parts.0.places ∙ (λ i. places_from (sym e_is i) (sym limit_is i)), ended_parts S e limit ss e_is limit_is parts.1)
 
--- a part that was stopped, told of a superblock over places of its own
-pub told_closed : (s : Session) (root : Super) (e limit : ℕ) → s.places ≡ places_from e limit → told_of (stopped_of s) root (places_from e limit) ≡ closed_part root s
-told_closed s root e limit are = ap (λ (t : Space). told_of (stopped_of s) root t) (sym are)
-
 pub closed_session : (s : Session) → IsSession s → s.pending ≡ [] → IsSession (closed_of s)
 closed_session s is idle = still_is s (closed_root s) s.committed (record { at = 0; piece = super_bytes (closed_root s) } ∷ []) true s.keeps s.flushing refl (λ e. absurd (let calm = idle_unplanned s is idle in cc)) is
 
@@ -124,7 +112,7 @@ pub stopped_length : (ss : List Session) → length (map stopped_of ss) ≡ leng
 stopped_length [] = refl
 stopped_length (s ∷ ss) = ap suc (stopped_length ss)
 
-behind_none_pending : (root : Super) (ss : List Session) → all_pending (map (closed_part root) ss) ≡ []
+pub behind_none_pending : (root : Super) (ss : List Session) → all_pending (map (closed_part root) ss) ≡ []
 behind_none_pending root [] = refl
 behind_none_pending root (s ∷ ss) = behind_none_pending root ss
 

@@ -4,7 +4,6 @@ use Rattle.h5w_model.specs.declared.piece.Write.{Write}
 use Rattle.h5w_model.specs.declared.root.Super.{Super}
 use Rattle.h5w_space.specs.Space.{Space}
 use Rattle.h5w_session.specs.Flushes.{SameBut}
-use Rattle.h5w_session.specs.Refusals.{IsDeepFor}
 use Rattle.h5w_session.specs.Sessions.{IsSession, Session, rows_of}
 use Rattle.h5w_session.specs.Starts.{HasFlushed}
 use Rattle.h5w_session.specs.Told.{told_of}

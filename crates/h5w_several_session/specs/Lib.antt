@@ -1,4 +1,5 @@
 pub use Rattle.h5w_several_session_laws.specs.Sessions
+pub mod Flows
 pub mod Opened
 pub mod Parts
 pub mod Refusals

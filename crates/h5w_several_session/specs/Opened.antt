@@ -43,3 +43,7 @@ sessions_over root limit ss = record {
   stopped = false;
   keeps = false;
 }
+
+-- the same where the superblock is the file's already, so that nothing is pending
+abbrev pub sessions_at_rest : Super → ℕ → List Session → Sessions
+sessions_at_rest root limit ss = record (sessions_over root limit ss) { parts = rested root (places_from root.end limit) ss }

@@ -1,5 +1,6 @@
 -- Why calls of a session of several datasets are refused.
-use Rattle.std.specs.Prelude.{◌≡◌, ◌⊎◌, ◌+◌, ◌<◌, ◌≤◌, List, [], ◌∷◌, length, ℤ, nat_lt, if◌then◌else◌, Option, Some, None}
+use Rattle.std.specs.Prelude.{◌≡◌, ◌⊎◌, ◌+◌, ◌<◌, ◌≤◌, max, List, [], ◌∷◌, length, ℤ, nat_lt, if◌then◌else◌, Option, Some, None}
+use Rattle.h5w_model.specs.Several.{FileLog, load_all}
 use Rattle.h5w_model.specs.declared.root.Super.{Super}
 use Rattle.h5w_image.specs.View.{ImageView}
 use Rattle.h5w_space.specs.Space.{Space}
@@ -15,6 +16,8 @@ use Rattle.h5w_session.specs.declared.refusal.FlushError.{FlushError}
 use Rattle.h5w_session.specs.declared.refusal.FlushError.TheVariants as flushes
 use Rattle.h5w_session.specs.declared.refusal.CloseError.{CloseError}
 use Rattle.h5w_session.specs.declared.refusal.CloseError.TheVariants as closes
+use Rattle.h5w_several_session.specs.Flows.{all_waits}
+use Rattle.h5w_several_session_laws.specs.Bounds.{cuttings_of}
 use Rattle.h5w_several_session_laws.specs.Sessions.{Sessions, all_pending}
 
 -- the first of these that applies: the session was stopped, pieces are pending, or the dataset's own refusal
@@ -49,6 +52,16 @@ IsFullAmong root t (s ∷ ss) full =
     ((0 < s.waits) × IsFullFor (told_of s root t) full)
     ⊎ ((s.waits ≡ 0) × IsFullAmong root t ss full)
     ⊎ ((m : Session) × (p : Planned) × IsPlannedPart root t s m p × IsFullAmong (record root { end = (places_of m p).end }) (places_of m p) ss full)
+
+-- Rows wait, and the file has no place of this size there, which is no larger than what a plan of all datasets may write. It stands no further than
+-- where the file ends, or than the limit.
+pub record NoPlaceAll (S : Sessions) (log : FileLog) (full : Full) : Type 0 where
+  pub waits : 0 < all_waits S.parts
+  pub some : 1 ≤ full.size
+  pub limit : full.limit ≡ S.places.limit
+  pub past : full.limit < full.at + full.size
+  pub size_bound : full.size ≤ load_all (cuttings_of S.parts) log
+  pub at_bound : full.at ≤ max S.places.end S.places.limit
 
 -- the index of one of the parts has no room
 abbrev pub IsDeepAmong : List Session → Type 0

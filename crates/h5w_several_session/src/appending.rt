@@ -6,7 +6,7 @@ ghost use Rattle.h5w_model.specs.Several.{FileLog, appends_to};
 ghost use Rattle.h5w_session.specs.Sessions.{AreRows, Session, rows_of};
 ghost use Rattle.h5w_session.specs.declared.refusal.AppendError.{AppendError};
 ghost use Rattle.h5w_several_session.specs.Refusals.{HasRoomForAll, append_refusal_in};
-ghost use Rattle.h5w_several_session_laws.specs.Sessions.{AppendsTo};
+ghost use Rattle.h5w_several_session_laws.specs.Sessions.{AppendsTo, AreSessions};
 ghost use Rattle.h5w_several_session_laws.specs.Standing.{StandsAll, and_then};
 
 use crate::several::SeveralWriter;
@@ -14,9 +14,9 @@ use h5w_image::PieceWrite;
 use h5w_session::AppendError;
 
 impl SeveralWriter {
-    /// Appends values to dataset `d`, counted from 0, rows one after another, whose cells wait for the next flush. Answers how many rows it has
-    /// then in all. Where more bytes of a dataset would wait than the budget has it is refused, as for want of memory. Room is reserved in the
-    /// image for one piece, up to the file's end.
+    /// Appends values to dataset `d`, counted from 0, rows one after another, whose cells wait for the next flush.
+    /// Answers how many rows it has then in all. Where more bytes of a dataset would wait than the budget has it is
+    /// refused, as for want of memory. Room is reserved in the image for one piece, up to the file's end.
     pub fn append<W: PieceWrite>(
         &mut self,
         d: usize,
@@ -33,6 +33,7 @@ impl SeveralWriter {
             → IfErr result (λ e. (append_refusal_in self.old s values.now ≡ Some e) ⊎ (e ≡ AppendError.Failed) ⊎ (e ≡ AppendError.OutOfMemory)) }
         ensures fault { result ≡ Err AppendError.Failed → Rose (W.view image.old).faults (W.view image.new).faults }
         ensures kept { OnErr result (self.new ≡ self.old) }
+        ensures sessions { AreSessions self.new }
         ensures image { Same (W.view image.old) (W.view image.new) }
         ensures room { OnOk result (HasRoomForAll self.new (W.view image.new)) }
     {

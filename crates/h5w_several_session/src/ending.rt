@@ -1,11 +1,12 @@
 //! A session of several datasets ends.
-ghost use Rattle.std.specs.Prelude.{◌≡◌, ◌≤◌, ◌^◌, Ok, Err, IfOk, IsOk, MatchOption, OnErr, OnOk, false, length, map};
+ghost use Rattle.std.specs.Prelude.{◌≡◌, ◌≤◌, ◌^◌, ◌∷◌, [], Ok, Err, IfOk, IsOk, MatchOption, OnErr, OnOk, false, length, map};
 ghost use Rattle.h5w_model.specs.Several.{FileLog};
 ghost use Rattle.h5w_model.specs.Superblock.{super_at, super_bytes};
 ghost use Rattle.h5w_session.specs.Sessions.{cleared, stopped_of};
 ghost use Rattle.h5w_several_session.specs.Parts.{AllSessions, AreEnded, IsFirst};
 ghost use Rattle.h5w_several_session.specs.Refusals.{close_refusal_of};
-ghost use Rattle.h5w_several_session_laws.specs.Sessions.{all_pending, closed_all, closed_part, closed_parts, closed_super, stopped_all};
+ghost use Rattle.h5w_session.specs.PartLaws.{super_piece};
+ghost use Rattle.h5w_several_session_laws.specs.Sessions.{AreSessions, all_pending, closed_all, closed_part, closed_parts, closed_super, stopped_all};
 ghost use Rattle.h5w_several_session_laws.specs.Standing.{StandsAll};
 
 use crate::several::{SeveralWriter, set_aside};
@@ -45,7 +46,8 @@ fn close_behind(parts: &mut [WriterCore], alloc: Global, root: Super, end: u64, 
     }
 }
 
-/// The first of these datasets writes the superblock of a file that nobody writes; the others are told of it. Answers that superblock.
+/// The first of these datasets writes the superblock of a file that nobody writes; the others are told of it. Answers
+/// that superblock.
 fn close_all(
     parts: &mut [WriterCore],
     alloc: Global,
@@ -78,9 +80,11 @@ fn close_all(
 }
 
 impl SeveralWriter {
-    /// Drops the pending pieces. The session is stopped from then on: nothing is pending, and what was flushed stays. Takes no memory.
+    /// Drops the pending pieces. The session is stopped from then on: nothing is pending, and what was flushed stays.
+    /// Takes no memory.
     pub fn stop(&mut self)
         ensures session { self.new ≡ stopped_all self.old }
+        ensures sessions { AreSessions self.new }
         ensures stands { (log : FileLog) → StandsAll self.old log → StandsAll self.new log }
     {
         self.drop_pending();
@@ -88,7 +92,8 @@ impl SeveralWriter {
 
     /// Nothing is pending, and the session is stopped.
     fn drop_pending(&mut self)
-        ensures { self.new ≡ stopped_all self.old }
+        ensures session { self.new ≡ stopped_all self.old }
+        ensures sessions { AreSessions self.new }
     {
         stop_all(&mut self.parts);
         self.stopped = true;
@@ -97,20 +102,24 @@ impl SeveralWriter {
     /// The image failed at a piece, so that the pieces behind it cannot become visible: the session is stopped.
     pub fn failed(&mut self)
         ensures session { self.new ≡ stopped_all self.old }
+        ensures sessions { AreSessions self.new }
         ensures stands { (log : FileLog) → StandsAll self.old log → StandsAll self.new log }
     {
         self.stop();
     }
 
-    /// Plans the superblock with the flags of a file that nobody writes, as one pending piece: rows that wait stay unwritten. The session is
-    /// stopped from then on. Takes no memory.
+    /// Plans the superblock with the flags of a file that nobody writes, as one pending piece: rows that wait stay
+    /// unwritten. The session is stopped from then on. Takes no memory.
     pub fn close(&mut self) -> Result<(), CloseError>
         ensures closed { OnOk result (self.new ≡ closed_all self.old) }
         ensures reads { OnOk result (super_at (super_bytes (closed_super self.old)) ≡ Ok (closed_super self.old)) }
         ensures stands { OnOk result ((log : FileLog) → StandsAll self.old log → StandsAll self.new log) }
         ensures refused { MatchOption (close_refusal_of self.old) (result ≡ Ok tt) (λ e. result ≡ Err e) }
         ensures kept { OnErr result (self.new ≡ self.old) }
+        ensures pending { OnOk result (all_pending self.new.parts ≡ super_piece (closed_super self.old) ∷ []) }
+        ensures sessions { AreSessions self.new }
     {
+        // the session is opened here, so that what holds of every session is known
         let _ = &self.parts;
         self.clear()
     }
@@ -123,6 +132,7 @@ impl SeveralWriter {
         ensures kept { OnErr result (self.new ≡ self.old) }
         ensures going { OnOk result (self.old.stopped ≡ false) }
         ensures idle { OnOk result (length (all_pending self.old.parts) ≡ 0) }
+        ensures sessions { AreSessions self.new }
     {
         if self.stopped {
             return Err(CloseError::Stopped);

@@ -1,4 +1,5 @@
-//! The flush of all datasets: each part is planned over what the parts before it leave, and nothing is carried out before all are planned.
+//! The flush of all datasets: each part is planned over what the parts before it leave, and nothing is carried out
+//! before all are planned.
 ghost use Rattle.std.specs.Prelude.{◌≡◌, ◌⊎◌, ◌+◌, ◌<◌, ◌≤◌, ◌^◌, length, IfErr, IfOk, MatchOption, OnErr, OnOk, Ok, Err, Some};
 ghost use Rattle.h5w_image.specs.View.{Same};
 ghost use Rattle.h5w_model.specs.Causes.{Rose};
@@ -7,9 +8,10 @@ ghost use Rattle.h5w_space.specs.declared.Full.{Full};
 ghost use Rattle.h5w_session.specs.Refusals.{IsSpace};
 ghost use Rattle.h5w_session.specs.Sessions.{Session};
 ghost use Rattle.h5w_session.specs.declared.refusal.FlushError.{FlushError};
-ghost use Rattle.h5w_several_session.specs.Refusals.{HasRoomForAll, IsDeepAmong, IsFullAmong, flush_refusal_of};
+ghost use Rattle.h5w_several_session.specs.Flows.{PlansAll};
+ghost use Rattle.h5w_several_session.specs.Refusals.{HasRoomForAll, IsDeepAmong, IsFullAmong, NoPlaceAll, flush_refusal_of};
 ghost use Rattle.h5w_several_session.specs.Parts.{AllSessions, AreIdle};
-ghost use Rattle.h5w_several_session_laws.specs.Sessions.{AreFlushed, AreSameBut, FlushesAll, SameButHeld, all_pending, counts_of};
+ghost use Rattle.h5w_several_session_laws.specs.Sessions.{AreFlushed, AreSameBut, AreSessions, FlushesAll, SameButHeld, all_pending, counts_of};
 ghost use Rattle.h5w_several_session_laws.specs.Standing.{StandsAll, and_then};
 
 use crate::parts::Parts;
@@ -35,9 +37,10 @@ fn make_room<W: PieceWrite>(pieces: u64, end: u64, image: &mut W) -> Result<(), 
     Ok(())
 }
 
-/// Flushes these datasets, whose own places end by `from`, over a superblock and places, behind parts that have so many pieces at most. The superblock and the places are then
-/// those that the last part leaves, and each dataset has that superblock, and places that end there. After a refusal all is as before, but for
-/// places that are held in the indexes.
+/// Flushes these datasets, whose own places end by `from`, over a superblock and places, behind parts that have so many
+/// pieces at most. The superblock and the places are then those that the last part leaves, and each dataset has that
+/// superblock, and places that end there. After a refusal all is as before, but for places that are held in the
+/// indexes.
 fn flush_parts<W: PieceWrite>(
     parts: &mut [WriterCore],
     alloc: Global,
@@ -122,25 +125,30 @@ fn counts(parts: &[WriterCore]) -> Parts
 }
 
 impl SeveralWriter {
-    /// Plans the pieces that make the rows that wait visible, which are pending then: those of each dataset with such rows in turn, each as
-    /// the session of that dataset alone has them, ended by its header, with the superblock in each part in which the end of the file is another.
-    /// Answers how many they are, dataset after dataset, 0 where no row waits. What is refused is refused whole: where the file has no place
-    /// for one part, or an index no room, no dataset is flushed. All memory and all places are taken before anything is carried out. Room is
-    /// reserved in the image for all pieces and one more, up to the file's new end.
+    /// Plans the pieces that make the rows that wait visible, which are pending then: those of each dataset with such
+    /// rows in turn, each as the session of that dataset alone has them, ended by its header, with the superblock in
+    /// each part in which the end of the file is another. Answers how many they are, dataset after dataset, 0 where no
+    /// row waits. What is refused is refused whole: where the file has no place for one part, or an index no room, no
+    /// dataset is flushed. All memory and all places are taken before anything is carried out. Room is reserved in the
+    /// image for all pieces and one more, up to the file's new end.
     pub fn flush<W: PieceWrite>(&mut self, image: &mut W) -> Result<Parts, FlushError>
         ensures flushed { OnOk result (FlushesAll self.old self.new) }
         ensures counts { IfOk result (λ counts. counts ≡ counts_of self.new.parts) }
+        ensures rows { OnOk result (PlansAll self.old self.new) }
         ensures stands { IfOk result (λ counts. (log : FileLog) → StandsAll self.old log → StandsAll self.new (and_then (plans_each counts) log)) }
         ensures left { OnErr result ((log : FileLog) → StandsAll self.old log → StandsAll self.new log) }
         ensures refused { (e : FlushError) → flush_refusal_of self.old ≡ Some e → result ≡ Err e }
         ensures causes { IfErr result (λ e. (flush_refusal_of self.old ≡ Some e) ⊎ (IsSpace e ⊎ ((e ≡ FlushError.Deep) ⊎ ((e ≡ FlushError.Failed) ⊎ (e ≡ FlushError.OutOfMemory))))) }
         ensures full { (full : Full) → result ≡ Err (FlushError.Space full) → IsFullAmong self.old.root self.old.places self.old.parts full }
+        ensures bound { (full : Full) → result ≡ Err (FlushError.Space full) → (log : FileLog) → StandsAll self.old log → NoPlaceAll self.old log full }
         ensures deep { result ≡ Err FlushError.Deep → IsDeepAmong self.old.parts }
         ensures fault { result ≡ Err FlushError.Failed → Rose (W.view image.old).faults (W.view image.new).faults }
         ensures kept { OnErr result (SameButHeld self.old self.new) }
+        ensures sessions { AreSessions self.new }
         ensures image { Same (W.view image.old) (W.view image.new) }
         ensures room { OnOk result (HasRoomForAll self.new (W.view image.new)) }
     {
+        // the session is opened here, so that what holds of every session is known
         let _ = &self.parts;
         self.ready()?;
         self.flush_counted(image)
@@ -155,6 +163,7 @@ impl SeveralWriter {
         ensures deep { result ≡ Err FlushError.Deep → IsDeepAmong self.old.parts }
         ensures fault { result ≡ Err FlushError.Failed → Rose (W.view image.old).faults (W.view image.new).faults }
         ensures kept { OnErr result (SameButHeld self.old self.new) }
+        ensures sessions { AreSessions self.new }
         ensures image { Same (W.view image.old) (W.view image.new) }
         ensures room { OnOk result (HasRoomForAll self.new (W.view image.new)) }
         ensures causes { IfErr result (λ e. IsSpace e ⊎ ((e ≡ FlushError.Deep) ⊎ ((e ≡ FlushError.Failed) ⊎ (e ≡ FlushError.OutOfMemory)))) }
@@ -184,6 +193,7 @@ impl SeveralWriter {
         requires idle { length (all_pending self.old.parts) ≡ 0 }
         ensures flushed { OnOk result (FlushesAll self.old self.new) }
         ensures kept { OnErr result (SameButHeld self.old self.new) }
+        ensures sessions { AreSessions self.new }
         ensures full { (full : Full) → result ≡ Err (FlushError.Space full) → IsFullAmong self.old.root self.old.places self.old.parts full }
         ensures deep { result ≡ Err FlushError.Deep → IsDeepAmong self.old.parts }
         ensures causes { IfErr result (λ e. IsSpace e ⊎ ((e ≡ FlushError.Deep) ⊎ ((e ≡ FlushError.Failed) ⊎ (e ≡ FlushError.OutOfMemory)))) }

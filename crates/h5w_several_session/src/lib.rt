@@ -1,5 +1,5 @@
-//! A session of several datasets of one file: one writer that appends rows to them, and plans the pieces that make them visible, dataset after
-//! dataset.
+//! A session of several datasets of one file: one writer that appends rows to them, and plans the pieces that make them
+//! visible, dataset after dataset.
 #![tactic(auto)]
 
 mod appending;

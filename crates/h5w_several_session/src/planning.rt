@@ -1,4 +1,5 @@
-//! One part of a flush: it is planned over the superblock and the places that the parts before it leave, and carried out or given up.
+//! One part of a flush: it is planned over the superblock and the places that the parts before it leave, and carried
+//! out or given up.
 ghost use Rattle.std.specs.Prelude.{◌≡◌, ◌⊎◌, ◌+◌, ◌<◌, ◌≤◌, ◌^◌, [], length, IfErr, IfOk, OnErr, OnOk, Err};
 ghost use Rattle.h5w_flush_laws.specs.Spaces.{extent_of};
 ghost use Rattle.h5w_model.specs.Findings.{the_superblock};
@@ -24,7 +25,8 @@ use std::mem;
 /// The bytes of a superblock.
 const SUPERBLOCK: u64 = 48;
 
-/// A part that is planned; the superblock and the places of the file behind it; and how many pieces it and the parts before it have at most.
+/// A part that is planned; the superblock and the places of the file behind it; and how many pieces it and the parts
+/// before it have at most.
 #[derive(Drop)]
 pub struct Turn {
     pub planned: Planned,
@@ -41,7 +43,8 @@ fn more_pieces(pieces: u64, rows: usize, after: usize) -> Result<u64, OutOfMemor
     Ok(pieces.checked_add(more as u64).ok_or(OutOfMemory)?)
 }
 
-/// The places that a part which is planned leaves behind it, and how many pieces there are with its own at most, where there is memory for that.
+/// The places that a part which is planned leaves behind it, and how many pieces there are with its own at most, where
+/// there is memory for that.
 fn behind(part: &WriterCore, planned: &Planned, pieces: u64) -> Result<(Places, u64), OutOfMemory>
     ensures places { IfOk result (λ x. x.0 ≡ places_of part.now planned.now) }
     ensures pieces { IfOk result (λ x. x.1 ≡ pieces + most_of planned.now) }
@@ -96,6 +99,7 @@ fn lend(part: &mut WriterCore, alloc: Global, root: &mut Super, places: &mut Pla
     ensures places { places.new ≡ part.old.places }
 {
     let own = part.root();
+    // so it is known that the places end below 2^64
     let _ = places.end();
     let none = Places::new(alloc, 0, 0);
     *places = part.tell(*root, mem::replace(places, none));
@@ -116,8 +120,8 @@ fn reclaim(part: &mut WriterCore, alloc: Global, root: &mut Super, places: &mut 
     *root = lent;
 }
 
-/// Plans a part over this superblock and these places, which it has then, and hands out those that it had. After a refusal all is as before,
-/// but for places that are held in its index.
+/// Plans a part over this superblock and these places, which it has then, and hands out those that it had. After a
+/// refusal all is as before, but for places that are held in its index.
 pub fn begin_part(
     part: &mut WriterCore,
     alloc: Global,

@@ -2,10 +2,10 @@
 ghost use Rattle.std.specs.Prelude.{◌≡◌, ◌<◌, ◌≤◌, ◌^◌, Some, length, slice_get};
 ghost use Rattle.h5w_session.specs.Sessions.{IsSession, Session, rows_of};
 ghost use Rattle.h5w_session.specs.Told.{told_of};
-ghost use Rattle.h5w_several_session.specs.Opened.{AreOpened, places_from, rested, sessions_over, settled};
+ghost use Rattle.h5w_several_session.specs.Opened.{AreOpened, places_from, rested, sessions_at_rest, sessions_over, settled};
 ghost use Rattle.h5w_several_session.specs.Parts.{AllSessions};
 ghost use Rattle.h5w_model.specs.Several.{FileLog};
-ghost use Rattle.h5w_several_session_laws.specs.Sessions.{keeping};
+ghost use Rattle.h5w_several_session_laws.specs.Sessions.{AreSessions, keeping};
 ghost use Rattle.h5w_several_session_laws.specs.Standing.{StandsAll};
 
 use h5w_model::Super;
@@ -14,8 +14,9 @@ use h5w_space::Places;
 use std::alloc::Global;
 use std::marker::Model;
 
-/// A session of several datasets of one file: the rows of each are appended and wait as cells; the pieces that a flush planned become visible
-/// one after another, dataset after dataset. A session that was stopped or closed takes no rows and plans nothing.
+/// A session of several datasets of one file: the rows of each are appended and wait as cells; the pieces that a flush
+/// planned become visible one after another, dataset after dataset. A session that was stopped or closed takes no rows
+/// and plans nothing.
 #[derive(Drop)]
 pub struct SeveralWriter {
     /// The superblock and the places of the file once all planned pieces became visible.
@@ -23,7 +24,8 @@ pub struct SeveralWriter {
     pub(crate) places: Places,
     /// How many bytes the file may have at most.
     pub(crate) limit: u64,
-    /// The datasets in order, each with this superblock, and with places that end where these do and in which nothing is free.
+    /// The datasets in order, each with this superblock, and with places that end where these do and in which nothing
+    /// is free.
     pub(crate) parts: Vec<WriterCore>,
     pub(crate) stopped: bool,
     /// What is retired stays out of use.
@@ -117,8 +119,8 @@ fn settle_all(parts: &mut [WriterCore], alloc: Global, root: Super, limit: u64)
 }
 
 impl SeveralWriter {
-    /// A session over a file that was opened: each of these is the session of one of its datasets, just begun with this superblock, to append
-    /// rows up to `limit` bytes of the file. One piece is pending, the superblock.
+    /// A session over a file that was opened: each of these is the session of one of its datasets, just begun with this
+    /// superblock, to append rows up to `limit` bytes of the file. One piece is pending, the superblock.
     pub fn over(mut parts: Vec<WriterCore>, root: Super, limit: u64) -> SeveralWriter
         requires some { 1 ≤ length parts.items }
         requires few { length parts.items ≤ 8 }
@@ -126,10 +128,36 @@ impl SeveralWriter {
         requires version { root.version ≡ 3 }
         requires begun { 48 ≤ root.end }
         requires limit { limit ≤ 2 ^ 40 }
-        ensures { result ≡ sessions_over root limit parts.items }
+        ensures session { result ≡ sessions_over root limit parts.items }
+        ensures sessions { AreSessions result }
     {
         let alloc = *parts.allocator();
         settle_all(&mut parts, alloc, root, limit);
+        let places = Places::new(alloc, root.end, limit);
+        SeveralWriter {
+            root,
+            places,
+            limit,
+            parts,
+            stopped: false,
+            keeps: false,
+        }
+    }
+
+    /// The same over a file whose superblock is this one already, as that of a file that another writer left: nothing
+    /// is pending.
+    pub fn at_rest(mut parts: Vec<WriterCore>, root: Super, limit: u64) -> SeveralWriter
+        requires some { 1 ≤ length parts.items }
+        requires few { length parts.items ≤ 8 }
+        requires opened { AreOpened root.end parts.items }
+        requires version { root.version ≡ 3 }
+        requires begun { 48 ≤ root.end }
+        requires limit { limit ≤ 2 ^ 40 }
+        ensures session { result ≡ sessions_at_rest root limit parts.items }
+        ensures sessions { AreSessions result }
+    {
+        let alloc = *parts.allocator();
+        settle(&mut parts, alloc, root, limit);
         let places = Places::new(alloc, root.end, limit);
         SeveralWriter {
             root,
@@ -146,6 +174,7 @@ impl SeveralWriter {
         ensures count { result ≡ length self.now.parts }
         ensures some { 1 ≤ result }
         ensures few { result ≤ 8 }
+        ensures sessions { AreSessions self.now }
     {
         self.parts.len()
     }
@@ -193,6 +222,7 @@ impl SeveralWriter {
     /// What is retired stays out of use from now on: it is forgotten once the pieces of its flush are visible.
     pub fn keep_retired(&mut self)
         ensures session { self.new ≡ keeping self.old }
+        ensures sessions { AreSessions self.new }
         ensures stands { (log : FileLog) → StandsAll self.old log → StandsAll self.new log }
     {
         self.keeps = true;

@@ -5,7 +5,8 @@ ghost use Rattle.h5w_model.specs.declared.piece.Write.{Write};
 ghost use Rattle.h5w_model.specs.Several.{FileLog, shows_all};
 ghost use Rattle.h5w_space.specs.Space.{Space};
 ghost use Rattle.h5w_session.specs.Sessions.{Freed};
-ghost use Rattle.h5w_several_session_laws.specs.Sessions.{AfterPieceOf, AreFlushing, AreParts, AreShown, Sessions, all_pending};
+ghost use Rattle.h5w_several_session.specs.Flows.{KeepsParts};
+ghost use Rattle.h5w_several_session_laws.specs.Sessions.{AfterPieceOf, AreFlushing, AreParts, AreSessions, AreShown, Sessions, all_pending};
 ghost use Rattle.h5w_several_session_laws.specs.Standing.{StandsAll, and_then};
 
 use crate::several::SeveralWriter;
@@ -106,12 +107,14 @@ impl SeveralWriter {
         first_piece(&self.parts)
     }
 
-    /// The oldest pending piece became visible. With the last one of a dataset's the file has the planned rows of that dataset; with the last one
-    /// of a flush what was retired is free, or stays out of use. Takes no memory.
+    /// The oldest pending piece became visible. With the last one of a dataset's the file has the planned rows of that
+    /// dataset; with the last one of a flush what was retired is free, or stays out of use. Takes no memory.
     pub fn written(&mut self)
         requires { 0 < length (all_pending self.old.parts) }
         ensures piece { (w : Write) (ws : List Write) → all_pending self.old.parts ≡ w ∷ ws → AfterPieceOf w self.old self.new }
         ensures left { (w : Write) (ws : List Write) → all_pending self.old.parts ≡ w ∷ ws → all_pending self.new.parts ≡ ws }
+        ensures parts { KeepsParts self.old self.new }
+        ensures sessions { AreSessions self.new }
         ensures stands { (w : Write) (ws : List Write) → all_pending self.old.parts ≡ w ∷ ws → (log : FileLog) → StandsAll self.old log → StandsAll self.new (and_then (shows_all w) log) }
     {
         self.advance();
@@ -122,6 +125,7 @@ impl SeveralWriter {
         requires { 0 < length (all_pending self.old.parts) }
         ensures piece { (w : Write) (ws : List Write) → all_pending self.old.parts ≡ w ∷ ws → AfterPieceOf w self.old self.new }
         ensures left { (w : Write) (ws : List Write) → all_pending self.old.parts ≡ w ∷ ws → all_pending self.new.parts ≡ ws }
+        ensures sessions { AreSessions self.new }
     {
         if show_piece(&mut self.parts) {
             let_go(&mut self.places, self.keeps);

@@ -116,7 +116,7 @@ flush_folds : (old new : Sessions) (log : FileLog) (st : StandsOn old log) → a
 flush_folds old new log st idle x =
     let rest = at_rest old.root old.places st.ranges (all_pending old.parts) log 0 log.sets [] old.parts st.entries idle idle st.parts in
     let known = subst (λ (ws : List Write). AreKnown (last_image log ws) old.places old.root st.ranges st.entries) idle st.known in
-    folded part_laws log st.ranges st.blocks old.root new.root old.places new.places log.sets old.parts new.parts st.entries known st.off rest st.fits x.parts
+    folded part_laws log st.ranges st.blocks old.root new.root old.places new.places log.sets old.parts new.parts st.entries known st.off rest (record { ends = st.fits; low = st.low }) x.parts
 
 flush_grown : (old new : Sessions) (log : FileLog) → StandsOn old log → all_pending old.parts ≡ [] → FlushesAll old new → IsGrown old log → IsGrown new (and_then (plans_each (counts_of new.parts)) log)
 flush_grown old new log st idle x grown =

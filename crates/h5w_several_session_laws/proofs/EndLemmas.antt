@@ -21,6 +21,7 @@ use Rattle.h5w_session.specs.Sessions.{AfterPiece, AllEndBy, Session, Settles, c
 use Rattle.h5w_session.specs.Told.{moved_to, told_log}
 use Rattle.h5w_session.proofs.PastLemmas.{ends_front, ends_joined}
 use Rattle.h5w_session.specs.PartLaws.{PartLaws, RunsAs, super_piece}
+use Rattle.h5w_several_session_laws.specs.Began.{IsAmple}
 use Rattle.h5w_several_session_laws.specs.Sessions.{AfterPieceOf, AreFlushing, AreParts, AreShown, Sessions, all_pending, closed_all, closed_part, closed_parts, closed_super, halted, halted_of, stopped_all}
 use Rattle.h5w_several_session_laws.specs.Valid.{AreValidFrom}
 use Rattle.h5w_several_session_laws.specs.Standing.{AreStandingParts, IsDone, IsStandingPart, StandsAll, StandsOn, last_image, most_in, rested}
@@ -192,15 +193,13 @@ stopped_none w (s ∷ ss) (u ∷ uu) x = elim x [
 
 -- ---- A close
 
--- flags without bits 0 and 2 agree
-cleared_alike : (flags : ℕ) → ((cleared flags % 2) == (cleared flags / 4 % 2)) ≡ true
-cleared_alike flags =
-    let low : cleared flags % 2 ≡ 0 = omega arith in
-    let high : cleared flags / 4 % 2 ≡ 0 = omega arith in
-    eq-eqb (cleared flags % 2) (cleared flags / 4 % 2) (low ∙ sym high)
-
-closed_swmr : (S : Sessions) → is_swmr (closed_super S) ≡ true
-closed_swmr S = or_right (S.root.version == 2) ((cleared S.root.flags % 2) == (cleared S.root.flags / 4 % 2)) (cleared_alike S.root.flags)
+-- the superblock of a closed session is of a file that nobody writes: of its flags bits 0 and 2 agree
+shut_swmr : (S : Sessions) → is_swmr (closed_super S) ≡ true
+shut_swmr S =
+    let flags = cleared S.root.flags in
+    let low : flags % 2 ≡ 0 = omega arith in
+    let high : flags / 4 % 2 ≡ 0 = omega arith in
+    or_right (S.root.version == 2) ((flags % 2) == (flags / 4 % 2)) (eq-eqb (flags % 2) (flags / 4 % 2) (low ∙ sym high))
 
 -- the session that goes on with the superblock's piece
 abbrev closing_part : Super → Session → Session
@@ -256,7 +255,7 @@ done_of root t us log d b before s behind e idle x = elim x.phase [
   | inr due ↦ absurd (due.some idle)
 ]
 
-module _ (p : PartLaws) (S : Sessions) (us : List Used) (log : FileLog) (reads : super_at (super_bytes (closed_super S)) ≡ Ok (closed_super S)) where
+module _ (p : PartLaws) (S : Sessions) (us : List Used) (log : FileLog) (low : IsAmple S.places log) (reads : super_at (super_bytes (closed_super S)) ≡ Ok (closed_super S)) where
   abbrev root : Super
   root = closed_super S
 
@@ -279,12 +278,12 @@ module _ (p : PartLaws) (S : Sessions) (us : List Used) (log : FileLog) (reads :
       let at = rested S.root t s in
       let o : Entry = entry s.name r.after r.address r.held in
       let same : e ≡ o = entry_is s.name e at [] x.own t name x.runs in
-      let told = p.super at x.own r (cleared S.root.flags) early reads (closed_swmr S) in
+      let told = p.super at x.own r (cleared S.root.flags) early reads (shut_swmr S) in
       let next = p.told at x.own r piece root t told.0 in
       let runs = subst (λ (q : Space). RunsAs (rested root t s) [] (told_log next.0 piece x.own) (moved_to root r.after) r.address r.held q) told.1 next.1 in
       let settled = settled_runs s.name x.own r.after r.held r.runs in
       let here : image (image_now x.own) piece ≡ last_image log piece = ap (λ (i : List ℕ). image i piece) (own_image log d b x.own [] x.seen) ∙ sym (last_joined log [] piece) in
-      let most = own_most log d b x.own [] t at x.seen refl in
+      let most = own_most log d b x.own [] t at x.seen refl low in
       let known : KnownHeld (image (image_now x.own) piece) s.name (moved_to root r.after) r.address t r.held = subst (λ (q : Space). KnownHeld (image (image_now x.own) piece) s.name (moved_to root r.after) r.address q r.held) told.1 (record { knows = told.0.knows; is = told.0.holds }) in
       let there = subst (λ (i : List ℕ). KnownHeld i s.name (moved_to root r.after) r.address t r.held) here known in
       let own_one = subst (λ (y : Entry). IsOne (last_image log []) t S.root us y) same one in
@@ -371,7 +370,7 @@ closes_stand p S log st idle x reads =
     let calm = all_calm S S.parts idle x in
     let parts = subst (λ (ws : List Write). AreStandingParts S.root S.places us ws log 0 log.sets [] S.parts st.entries) idle st.parts in
     let known = subst (λ (ws : List Write). AreKnown (last_image log ws) S.places S.root us st.entries) idle st.known in
-    let closed = first_closed p S us log reads log.sets S.parts st.entries calm parts known in
+    let closed = first_closed p S us log st.low reads log.sets S.parts st.entries calm parts known in
     record {
       was = closing S;
       stands = record {
@@ -382,6 +381,7 @@ closes_stand p S log st idle x reads =
         blocks = st.blocks;
         parts = closed.parts;
         fits = st.fits;
+        low = st.low;
         ends = ends_joined (most_in S.places log) (pieces_in log.events) (all_pending (closing_parts (closed_super S) S.parts)) (ends_front (most_in S.places log) (pieces_in log.events) (all_pending S.parts) st.ends) closed.ends;
         going = st.going;
         valid = closed_valid (closed_super S) S.places us log log.sets S.parts st.entries closed.parts closed.known st.off

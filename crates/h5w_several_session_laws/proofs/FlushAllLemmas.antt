@@ -212,14 +212,14 @@ flushes_stand p old new log st idle x =
     let us = st.ranges in
     let rest = at_rest old.root old.places us left log 0 log.sets [] old.parts st.entries idle idle st.parts in
     let known = subst (λ (ws : List Write). AreKnown (last_image log ws) old.places old.root us st.entries) idle st.known in
-    let f = folded p log us st.blocks old.root new.root old.places new.places log.sets old.parts new.parts st.entries known st.off rest st.fits x.parts in
+    let f = folded p log us st.blocks old.root new.root old.places new.places log.sets old.parts new.parts st.entries known st.off rest (record { ends = st.fits; low = st.low }) x.parts in
     let same : most_in new.places log ≡ most_in old.places log = ap (λ (n : ℕ). let y : Space = record (new.places) { limit = n } in most_in y log) f.stretch.limit in
     let before = ends_front (most_in old.places log) (pieces_in log.events) left st.ends in
     let names = names_of st.entries in
     let named = out_names new.root new.places us total log 0 log.sets [] new.parts f.es f.rest ∙ flushed_names old.root old.places old.parts new.root new.places new.parts x.parts
     ∙ sym (standing_names old.root old.places us left log 0 log.sets [] old.parts st.entries st.parts) in
     let none : pieces_in log.events ++ left ≡ pieces_in log.events = ap (λ (ws : List Write). pieces_in log.events ++ ws) idle ∙ append-nil (pieces_in log.events) in
-    let stays = flush_valid p log us st.blocks old.root new.root old.places new.places log.sets old.parts new.parts st.entries known st.off rest st.fits x.parts in
+    let stays = flush_valid p log us st.blocks old.root new.root old.places new.places log.sets old.parts new.parts st.entries known st.off rest (record { ends = st.fits; low = st.low }) x.parts in
     record {
       ranges = us;
       entries = f.es;
@@ -228,6 +228,7 @@ flushes_stand p old new log st idle x =
       blocks = st.blocks;
       parts = stand_parts new.root new.places us total log (counts_of new.parts) [] 0 log.sets [] new.parts f.es refl refl refl refl f.rest;
       fits = omega (arith, f.stretch.fits, same);
+      low = λ new. omega (arith, st.low new, f.stretch.limit);
       ends = subst (λ (n : ℕ). AllEndBy n (pieces_in log.events ++ total)) (sym same) (ends_joined (most_in old.places log) (pieces_in log.events) total before f.stretch.ends);
       going = ap (λ (y : Sessions). y.stopped) x.session ∙ st.going;
       valid = subst (λ (ns : List (List ℕ)). AreValidFrom log.first log.start ns (pieces_in log.events ++ total)) (sym named)

@@ -18,7 +18,7 @@ use Rattle.h5w_session.specs.PartLaws.{PartLaws}
 use Rattle.h5w_several_session_laws.specs.Sessions.{AreFlushed, all_pending, bare}
 use Rattle.h5w_several_session_laws.specs.Standing.{IsDone, last_image, most_in}
 use Rattle.h5w_several_session_laws.proofs.PassedLemmas.{ArePassedBy}
-use Rattle.h5w_several_session_laws.proofs.TurnPartLemmas.{AllIn, IsIn, Seat, Stretches, flushed_named, flushed_none, last_joined, step_all, step_in, turned_part}
+use Rattle.h5w_several_session_laws.proofs.TurnPartLemmas.{AllIn, IsIn, IsWithin, Seat, Stretches, flushed_named, flushed_none, last_joined, step_all, step_in, turned_part, within_then}
 
 abbrev pub seat : ℕ → Begun → List Write → Session → Seat
 seat d b before s = record { number = d; begun = b; before = before; part = s }
@@ -90,7 +90,7 @@ most_same t u log limit = ap (λ (n : ℕ). let x : Space = record u { limit = n
 stretched : (t u end : Space) (log : FileLog) (ws : List Write) → u.limit ≡ t.limit → Stretches u end log ws → Stretches t end log ws
 stretched t u end log ws limit x =
     let most = most_same t u log limit in
-    record { limit = x.limit ∙ limit; fits = omega (arith, x.fits, most); ends = subst (λ (n : ℕ). AllEndBy n ws) most x.ends }
+    record { limit = x.limit ∙ limit; fits = omega (arith, x.fits, most); ends = subst (λ (n : ℕ). AllEndBy n ws) most x.ends; low = λ new. omega (arith, x.low new, limit) }
 
 -- The last one that had its turn is the first of those that are all through: it led from one end of the file to the next, and has so many pieces at most.
 popped : (last : Super) (t v end : Space) (us : List Used) (log : FileLog) (done : List Seat) (d : ℕ) (b : Begun) (bs : List Begun) (total before : List Write) (n u : Session) (uu : List Session) (own most : ℕ) → u ≡ told_of n last (bare end) → n.waits ≡ 0
@@ -109,7 +109,7 @@ popped last t v end us log done d b bs total before n u uu own most told none en
           state = shift (last_image log total) end last us e ds x.es state;
           passed = passed.1;
           rest = (record { part = n; told = told; none = none; inside = passed.0 }, x.rest);
-          stretch = record { limit = later.limit; fits = later.fits; ends = ends_joined (most_in t log) u.pending (all_pending uu) ends later.ends };
+          stretch = record { limit = later.limit; fits = later.fits; ends = ends_joined (most_in t log) u.pending (all_pending uu) ends later.ends; low = later.low };
           few = omega (arith, both, count, x.few);
           raised = omega (arith, rise, x.raised);
         }
@@ -154,12 +154,12 @@ module _ (p : PartLaws) (log : FileLog) (us : List Used) (blocks : (u : Used) �
       behind
 
   fold : (root last : Super) (t end : Space) (all : List Write) (done : List Seat) (ds : List Entry) (d : ℕ) (bs : List Begun) (ss uu : List Session) (es : List Entry) → State (last_image log all) t root us ds es → AllIn root t us all log done ds
-      → AllRest root t us all log d bs ss es → t.end ≤ most_in t log → AreFlushed root t ss last end uu → IsFolded last t end us log done d bs (all ++ all_pending uu) all uu (load_from d (map cutting_of ss) bs log)
+      → AllRest root t us all log d bs ss es → IsWithin t log → AreFlushed root t ss last end uu → IsFolded last t end us log done d bs (all ++ all_pending uu) all uu (load_from d (map cutting_of ss) bs log)
   fold root last t end all done ds d [] [] [] [] st in_done rest fits x =
       subst (λ (r : Super). IsFolded r t end us log done d [] (all ++ []) all [] 0) (sym x.0)
       (subst (λ (y : Space). IsFolded root t y us log done d [] (all ++ []) all [] 0) (sym x.1)
       (subst (λ (ws : List Write). IsFolded root t t us log done d [] ws all [] 0) (sym (append-nil all))
-      (record { ds = ds; es = []; state = st; passed = in_done; rest = tt; stretch = record { limit = refl; fits = fits; ends = tt }; few = omega arith; raised = omega arith })))
+      (record { ds = ds; es = []; state = st; passed = in_done; rest = tt; stretch = record { limit = refl; fits = fits.ends; ends = tt; low = fits.low }; few = omega arith; raised = omega arith })))
   fold root last t end all done ds d (b ∷ bs) (s ∷ ss) (u ∷ uu) (e ∷ es) st in_done rest fits x =
       let i = rest.0.0 in
       let one = is_done root t all d b s e rest.0.1 i in
@@ -171,7 +171,7 @@ module _ (p : PartLaws) (log : FileLog) (us : List Used) (blocks : (u : Used) �
             let n = turn.0 in
             let flushes = turn.1 in
             let img = last_image log all in
-            let turned = turned_part p log us img root t all d b ds e es s n refl st blocks one i.name rest.0.1 i.going flushes.flushed flushes.ends in
+            let turned = turned_part p log us img root t all d b ds e es s n refl st blocks one i.name rest.0.1 i.going flushes.flushed flushes.ends fits.low in
             let ws = n.pending in
             let name = flushed_named (told_of s root t) n flushes.flushed in
             let none = flushed_none (told_of s root t) n flushes.flushed in
@@ -184,10 +184,9 @@ module _ (p : PartLaws) (log : FileLog) (us : List Used) (blocks : (u : Used) �
             } in
             let passed = step_all p log us img ws all root n.root t n.places done ds refl turned.done turned.stretch in_done in
             let state = subst (λ (y : List ℕ). State y n.places n.root us (flushed_entry e turned.parts ∷ all_then n.root ds) (all_then n.root es)) (sym (last_joined log all ws)) turned.state in
-            let most = most_same t n.places log turned.stretch.limit in
             turns last t end all done d b bs n u uu (load (cutting_of s) (log_of d b log)) (load_from (suc d) (map cutting_of ss) bs log) none.0 turn.2 turned.stretch turned.few turned.raised
             (fold n.root last n.places end (all ++ ws) (seat d b all n ∷ done) (flushed_entry e turned.parts ∷ all_then n.root ds) (suc d) bs ss uu (all_then n.root es) state (here, passed)
-            (rest_steps img ws all root n.root t n.places (suc d) bs ss es refl turned.rest turned.stretch rest.1) (omega (arith, turned.stretch.fits, most)) turn.3)
+            (rest_steps img ws all root n.root t n.places (suc d) bs ss es refl turned.rest turned.stretch rest.1) (within_then t n.places log ws turned.stretch) turn.3)
       ]
   fold root last t end all done ds d [] (s ∷ ss) uu es st in_done rest fits x = absurd rest
   fold root last t end all done ds d [] [] uu (e ∷ es) st in_done rest fits x = absurd rest
@@ -196,6 +195,6 @@ module _ (p : PartLaws) (log : FileLog) (us : List Used) (blocks : (u : Used) �
   fold root last t end all done ds d (b ∷ bs) (s ∷ ss) uu [] st in_done rest fits x = absurd rest
   fold root last t end all done ds d (b ∷ bs) (s ∷ ss) [] (e ∷ es) st in_done rest fits x = absurd x
 
-  pub folded : (root last : Super) (t end : Space) (bs : List Begun) (ss uu : List Session) (es : List Entry) → AreKnown (last_image log []) t root us es → AreOff es → AllRest root t us [] log 0 bs ss es → t.end ≤ most_in t log
+  pub folded : (root last : Super) (t end : Space) (bs : List Begun) (ss uu : List Session) (es : List Entry) → AreKnown (last_image log []) t root us es → AreOff es → AllRest root t us [] log 0 bs ss es → IsWithin t log
       → AreFlushed root t ss last end uu → IsFolded last t end us log [] 0 bs (all_pending uu) [] uu (load_from 0 (map cutting_of ss) bs log)
   folded root last t end bs ss uu es known off rest fits x = fold root last t end [] [] [] 0 bs ss uu es (record { passed = tt; known = known; apart = tt; off = off; across = tt }) tt rest fits x

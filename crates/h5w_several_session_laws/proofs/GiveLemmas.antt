@@ -1,5 +1,5 @@
 -- What a session of several datasets tells of each of them.
-use Rattle.std.proofs.Common.{◌≡◌, ℕ, zero, suc, ◌+◌, ◌/◌, ◌<◌, ◌≤◌, max, List, [], ◌∷◌, ◌++◌, length, ℤ, Some, refl, sym, ◌∙◌, ap, subst, inl, inr, arith}
+use Rattle.std.proofs.Common.{◌≡◌, ℕ, zero, suc, ◌+◌, ◌-◌, ◌/◌, ◌<◌, ◌≤◌, max, List, [], ◌∷◌, ◌++◌, length, ℤ, Some, refl, sym, ◌∙◌, ap, subst, inl, inr, arith}
 use Rattle.std.specs.Prelude.{map, slice_get}
 use Rattle.h5w_model.specs.Findings.{Used}
 use Rattle.h5w_model.specs.Logs.{Log, appended, flushed_rows}
@@ -15,6 +15,7 @@ use Rattle.h5w_session.specs.Sessions.{Session, rows_of, stopped_of}
 use Rattle.h5w_session.specs.Stands.{Running, Stands}
 use Rattle.h5w_session.proofs.LawLemmas.{standing_laws}
 use Rattle.h5w_session.proofs.StandLemmas.{goes_rows, resting}
+use Rattle.h5w_several_session_laws.specs.Began.{IsAmple, began_end}
 use Rattle.h5w_several_session_laws.specs.Laws.{PartTells, StandingAllLaws}
 use Rattle.h5w_several_session_laws.specs.Seen.{IsSeen}
 use Rattle.h5w_several_session_laws.specs.Sessions.{Sessions, all_pending, halted_of}
@@ -153,36 +154,44 @@ all_sets S log st =
 
 -- ---- The image's length
 
-part_fits : (root : Super) (t : Space) (us : List Used) (left : List Write) (log : FileLog) (d : ℕ) (b : Begun) (before : List Write) (s : Session) (behind : List Write) (e : Entry) → IsStandingPart root t us left log d b before s behind e
+part_fits : (root : Super) (t : Space) (us : List Used) (left : List Write) (log : FileLog) (d : ℕ) (b : Begun) (before : List Write) (s : Session) (behind : List Write) (e : Entry) → IsAmple t log → IsStandingPart root t us left log d b before s behind e
     → (p : ℕ) → IsPosition (log_of d b log) p → length (image_at (log_of d b log) p) ≤ max t.limit (length log.start)
-part_fits root t us left log d b before s behind e x p at = elim x.phase [
-  | inl done ↦ own_fits t (rested root t s) [] done.own left done.seen refl done.runs.running refl
-  | inr due ↦ own_fits t due.was s.pending due.own before due.seen (ap (λ (y : Session). y.pending) due.told) due.runs.running (sym due.limit)
+part_fits root t us left log d b before s behind e low x p at = elim x.phase [
+  | inl done ↦ own_fits (rested root t s) [] done.own left done.seen refl done.runs.running refl
+  | inr due ↦ own_fits due.was s.pending due.own before due.seen (ap (λ (y : Session). y.pending) due.told) due.runs.running (sym due.limit)
 ]
   where
-    own_fits : (t : Space) (v : Session) (ws : List Write) (l : Log) (later : List Write) → IsSeen log d b l later → ws ≡ v.pending → Running v ws l → v.places.limit ≡ t.limit → length (image_at (log_of d b log) p) ≤ max t.limit (length log.start)
-    own_fits t v ws l later seen is r limit =
+    within : (a b c : ℕ) → a ≤ b → b ≤ c → a ≤ c
+    within a b c low high = omega (arith, low, high)
+
+    own_fits : (v : Session) (ws : List Write) (l : Log) (later : List Write) → IsSeen log d b l later → ws ≡ v.pending → Running v ws l → v.places.limit ≡ t.limit → length (image_at (log_of d b log) p) ≤ max t.limit (length log.start)
+    own_fits v ws l later seen is r limit =
         let goes = r.runs.goes in
         let st : Stands v l = record { left = ws; dropped = inl is; phase = inr r; prefixed = goes.prefixed; still = goes.still } in
-        let own = standing_laws.fits v l p st (part_seen.position log d b l later seen p at) in
-        let img = part_seen.images log d b l later seen p (let n = many_seen log d b l later seen in omega (arith, at.reached, n)) in
-        let start = ap length seen.start in
-        omega (arith, own, ap length img, start, limit)
+        let o = part_seen.position log d b l later seen p at in
+        let q : ℕ = p - length seen.lead in
+        let own = standing_laws.fits v l q st o.own in
+        let img = part_seen.images log d b l later seen q (let n = many_seen log d b l later seen in omega (arith, at.reached, n, o.is)) in
+        let here = ap (image_at (log_of d b log)) o.is in
+        elim seen.begins [
+          | inl same ↦ let start = ap length same.0 in omega (arith, own, ap length img, ap length here, start, limit)
+          | inr new ↦ let bytes = within (length l.start) (began_end log) t.limit new.2 (low new.0) in omega (arith, own, ap length img, ap length here, bytes, limit)
+        ]
 
-parts_fit : (root : Super) (t : Space) (us : List Used) (left : List Write) (log : FileLog) (k : ℕ) (bs : List Begun) (before : List Write) (ss : List Session) (es : List Entry) → AreStandingParts root t us left log k bs before ss es
+parts_fit : (root : Super) (t : Space) (us : List Used) (left : List Write) (log : FileLog) (k : ℕ) (bs : List Begun) (before : List Write) (ss : List Session) (es : List Entry) → IsAmple t log → AreStandingParts root t us left log k bs before ss es
     → (i d : ℕ) (b : Begun) → d ≡ k + i → slice_get bs i ≡ Some b → (p : ℕ) → IsPosition (log_of d b log) p → length (image_at (log_of d b log) p) ≤ max t.limit (length log.start)
-parts_fit root t us left log k [] before [] [] x i d b is set p at = absurd cc
-parts_fit root t us left log k (c ∷ bs) before (u ∷ ss) (e ∷ es) x zero d b is set p at =
+parts_fit root t us left log k [] before [] [] low x i d b is set p at = absurd cc
+parts_fit root t us left log k (c ∷ bs) before (u ∷ ss) (e ∷ es) low x zero d b is set p at =
     let number : d ≡ k = omega (arith, is) in
     let same : b ≡ c = sym (some_is c b set) in
     let here = subst (λ (n : ℕ). IsPosition (log_of n c log) p) number (subst (λ (y : Begun). IsPosition (log_of d y log) p) same at) in
-    let fits = part_fits root t us left log k c before u (all_pending ss) e x.0 p here in
+    let fits = part_fits root t us left log k c before u (all_pending ss) e low x.0 p here in
     subst (λ (n : ℕ). length (image_at (log_of n b log) p) ≤ max t.limit (length log.start)) (sym number) (subst (λ (y : Begun). length (image_at (log_of k y log) p) ≤ max t.limit (length log.start)) (sym same) fits)
-parts_fit root t us left log k (c ∷ bs) before (u ∷ ss) (e ∷ es) x (suc i) d b is set p at = parts_fit root t us left log (suc k) bs (before ++ u.pending) ss es x.1 i d b (omega (arith, is)) set p at
-parts_fit root t us left log k [] before (u ∷ ss) es x i d b is set p at = absurd x
-parts_fit root t us left log k [] before [] (e ∷ es) x i d b is set p at = absurd x
-parts_fit root t us left log k (c ∷ bs) before [] es x i d b is set p at = absurd x
-parts_fit root t us left log k (c ∷ bs) before (u ∷ ss) [] x i d b is set p at = absurd x
+parts_fit root t us left log k (c ∷ bs) before (u ∷ ss) (e ∷ es) low x (suc i) d b is set p at = parts_fit root t us left log (suc k) bs (before ++ u.pending) ss es low x.1 i d b (omega (arith, is)) set p at
+parts_fit root t us left log k [] before (u ∷ ss) es low x i d b is set p at = absurd x
+parts_fit root t us left log k [] before [] (e ∷ es) low x i d b is set p at = absurd x
+parts_fit root t us left log k (c ∷ bs) before [] es low x i d b is set p at = absurd x
+parts_fit root t us left log k (c ∷ bs) before (u ∷ ss) [] low x i d b is set p at = absurd x
 
 same_places : (S : Sessions) (log : FileLog) (st : StandsAll S log) → S.places ≡ st.was.places
 same_places S log st = elim st.is [
@@ -197,7 +206,7 @@ same_places S log st = elim st.is [
 all_fit : (S : Sessions) (log : FileLog) → StandsAll S log → (d : ℕ) (b : Begun) → slice_get log.sets d ≡ Some b → (p : ℕ) → IsPosition (log_of d b log) p → length (image_at (log_of d b log) p) ≤ max S.places.limit (length log.start)
 all_fit S log st d b set p at =
     let on = st.stands in
-    let fits = parts_fit st.was.root st.was.places on.ranges (all_pending st.was.parts) log 0 log.sets [] st.was.parts on.entries on.parts d d b (let z : d ≡ 0 + d = omega arith in z) set p at in
+    let fits = parts_fit st.was.root st.was.places on.ranges (all_pending st.was.parts) log 0 log.sets [] st.was.parts on.entries on.low on.parts d d b (let z : d ≡ 0 + d = omega arith in z) set p at in
     subst (λ (t : Space). length (image_at (log_of d b log) p) ≤ max t.limit (length log.start)) (sym (same_places S log st)) fits
 
 -- ---- The rows planned

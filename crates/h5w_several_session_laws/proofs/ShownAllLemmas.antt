@@ -1,5 +1,5 @@
 -- What a session of several datasets is once its oldest pending piece became visible.
-use Rattle.std.proofs.Common.{◌≡◌, ℕ, suc, ◌≤◌, false, Bool, List, [], ◌∷◌, ◌++◌, refl, sym, ◌∙◌, ap, subst, inl, inr, arith, append_assoc}
+use Rattle.std.proofs.Common.{◌≡◌, ℕ, suc, false, Bool, List, [], ◌∷◌, ◌++◌, refl, sym, ◌∙◌, ap, subst, inl, inr, arith, append_assoc}
 use Rattle.h5w_model.specs.Images.{image}
 use Rattle.h5w_model.specs.Findings.{Used}
 use Rattle.h5w_model.specs.Logs.{and_now, shows}
@@ -20,7 +20,7 @@ use Rattle.h5w_several_session_laws.specs.Valid.{AreValidFrom}
 use Rattle.h5w_several_session_laws.specs.Standing.{AreStandingParts, IsDone, IsDue, IsStandingPart, StandsOn, and_then, last_image, most_in, rested}
 use Rattle.h5w_several_session_laws.proofs.ShownLemmas.{calm_after, due_last, due_more, each_seen, left_is, part_behind, part_idle, shown_left, shown_log}
 use Rattle.h5w_several_session_laws.proofs.SightLemmas.{seen_shown}
-use Rattle.h5w_several_session_laws.proofs.TurnPartLemmas.{ends_back, last_joined, own_image}
+use Rattle.h5w_several_session_laws.proofs.TurnPartLemmas.{IsWithin, ends_back, last_joined, own_image}
 use Rattle.h5w_several_session_laws.proofs.FlushAllLemmas.{back_nil, front_nil}
 
 -- ---- The part whose piece it is
@@ -40,7 +40,7 @@ module _ (p : PartLaws) (root : Super) (t : Space) (us : List Used) (w : Write) 
       })
 
   -- of a flush
-  due_part : (d : ℕ) (b : Begun) (s u : Session) (ws behind : List Write) (e : Entry) → s.pending ≡ w ∷ ws → AfterPiece s ws u → left ≡ ws ++ behind → IsOne (last_image log (w ∷ left)) t root us e → t.end ≤ most_in t log → AllEndBy (most_in t log) left
+  due_part : (d : ℕ) (b : Begun) (s u : Session) (ws behind : List Write) (e : Entry) → s.pending ≡ w ∷ ws → AfterPiece s ws u → left ≡ ws ++ behind → IsOne (last_image log (w ∷ left)) t root us e → IsWithin t log → AllEndBy (most_in t log) left
       → IsStandingPart root t us (w ∷ left) log d b [] s behind e → IsDue root t us log d b [] s behind e → IsStandingPart root t us left (shown_log w log) d b [] u behind e
   due_part d b s u [] behind e is after cut one fits ends x due =
       let own = and_now (shows w) due.own in
@@ -70,7 +70,7 @@ module _ (p : PartLaws) (root : Super) (t : Space) (us : List Used) (w : Write) 
         phase = inr next;
       })
 
-  the_part : (d : ℕ) (b : Begun) (s u : Session) (ws behind : List Write) (e : Entry) → s.pending ≡ w ∷ ws → AfterPiece s ws u → left ≡ ws ++ behind → IsOne (last_image log (w ∷ left)) t root us e → t.end ≤ most_in t log → AllEndBy (most_in t log) left
+  the_part : (d : ℕ) (b : Begun) (s u : Session) (ws behind : List Write) (e : Entry) → s.pending ≡ w ∷ ws → AfterPiece s ws u → left ≡ ws ++ behind → IsOne (last_image log (w ∷ left)) t root us e → IsWithin t log → AllEndBy (most_in t log) left
       → IsStandingPart root t us (w ∷ left) log d b [] s behind e → IsStandingPart root t us left (shown_log w log) d b [] u behind e
   the_part d b s u ws behind e is after cut one fits ends x = elim x.phase [
     | inl done ↦
@@ -94,7 +94,7 @@ module _ (p : PartLaws) (root : Super) (t : Space) (us : List Used) (w : Write) 
   parts_behind d (b ∷ bs) before [] es x = absurd x
   parts_behind d (b ∷ bs) before (s ∷ ss) [] x = absurd x
 
-  parts_shown : (d : ℕ) (bs : List Begun) (ss uu : List Session) (es : List Entry) → AreShown w ss uu → left ≡ all_pending uu → AreKnown (last_image log (w ∷ left)) t root us es → t.end ≤ most_in t log → AllEndBy (most_in t log) left
+  parts_shown : (d : ℕ) (bs : List Begun) (ss uu : List Session) (es : List Entry) → AreShown w ss uu → left ≡ all_pending uu → AreKnown (last_image log (w ∷ left)) t root us es → IsWithin t log → AllEndBy (most_in t log) left
       → AreStandingParts root t us (w ∷ left) log d bs [] ss es → AreStandingParts root t us left (shown_log w log) d bs [] uu es
   parts_shown d (b ∷ bs) (s ∷ ss) (u ∷ uu) (e ∷ es) made is known fits ends x = elim made [
     | inl y ↦
@@ -191,6 +191,7 @@ freed_stands p S v keeps log freed idle st =
       blocks = st.blocks;
       parts = parts_freed p keeps S.root S.places v st.ranges log freed (all_pending S.parts) 0 log.sets [] S.parts st.entries idle st.parts;
       fits = omega (arith, st.fits, kept.0, most);
+      low = λ new. omega (arith, st.low new, kept.1);
       ends = subst (λ (n : ℕ). AllEndBy n (pieces_in log.events ++ all_pending S.parts)) (sym most) st.ends;
       going = st.going;
       valid = st.valid;
@@ -216,8 +217,9 @@ shown_stands p old new w log st x =
       known = subst (λ (ws : List Write). AreKnown (image log.start ws) old.places old.root us st.entries) more known;
       off = st.off;
       blocks = st.blocks;
-      parts = parts_shown p old.root old.places us w log left 0 log.sets old.parts new.parts st.entries x.parts refl known st.fits tail parts;
+      parts = parts_shown p old.root old.places us w log left 0 log.sets old.parts new.parts st.entries x.parts refl known (record { ends = st.fits; low = st.low }) tail parts;
       fits = st.fits;
+      low = st.low;
       ends = subst (λ (ws : List Write). AllEndBy (most_in old.places log) ws) more ends;
       going = st.going;
       valid = subst (λ (ws : List Write). AreValidFrom log.first log.start (names_of st.entries) ws) more (subst (λ (ws : List Write). AreValidFrom log.first log.start (names_of st.entries) (pieces_in log.events ++ ws)) is st.valid);

@@ -1,5 +1,5 @@
 -- The oldest pending piece of a session of several datasets became visible.
-use Rattle.std.proofs.Common.{◌≡◌, ℕ, ◌≤◌, true, false, Bool, List, [], ◌∷◌, ◌++◌, refl, sym, ◌∙◌, ap, subst, inl, inr, arith}
+use Rattle.std.proofs.Common.{◌≡◌, ℕ, true, false, Bool, List, [], ◌∷◌, ◌++◌, refl, sym, ◌∙◌, ap, subst, inl, inr, arith}
 use Rattle.std.proofs.lemmas.List.Sorted.{IsPermutation-refl}
 use Rattle.h5w_model.specs.Images.{image}
 use Rattle.h5w_model.specs.Findings.{Used}
@@ -28,7 +28,7 @@ use Rattle.h5w_several_session_laws.specs.Sessions.{AreShown, all_pending}
 use Rattle.h5w_several_session_laws.specs.Standing.{IsDone, IsDue, IsOwed, IsStandingPart, and_then, most_in, rested}
 use Rattle.h5w_several_session_laws.proofs.PassedLemmas.{IsPassedBy}
 use Rattle.h5w_several_session_laws.proofs.SightLemmas.{each_next, seen_own, seen_shown}
-use Rattle.h5w_several_session_laws.proofs.TurnPartLemmas.{Stretches, entry, own_image, step_done}
+use Rattle.h5w_several_session_laws.proofs.TurnPartLemmas.{IsWithin, Stretches, entry, own_image, step_done}
 
 -- ---- What is free then
 
@@ -168,7 +168,7 @@ module _ (p : PartLaws) (root : Super) (t : Space) (us : List Used) (w : Write) 
       }
 
   -- it was the last: the part is told of those behind
-  module _ (is : s.pending ≡ w ∷ []) (early : s.early ≡ 0) (name : e.name ≡ s.name) (one : IsOne (image (image_now own) behind) t root us e) (fits : t.end ≤ most_in t log) (ends : AllEndBy (most_in t log) behind) where
+  module _ (is : s.pending ≡ w ∷ []) (early : s.early ≡ 0) (name : e.name ≡ s.name) (one : IsOne (image (image_now own) behind) t root us e) (fits : IsWithin t log) (ends : AllEndBy (most_in t log) behind) where
     abbrev place : Space
     place = freed_of x.was.keeps x.was.places
 
@@ -222,7 +222,7 @@ module _ (p : PartLaws) (root : Super) (t : Space) (us : List Used) (w : Write) 
     stretch =
         let limit = x.limit ∙ sym ((freed_keeps x.was.keeps x.was.places place (freed_is x.was.keeps x.was.places)).1) in
         let most : most_in place (shown_log w log) ≡ most_in t log = ap (λ (n : ℕ). let y : Space = record t { limit = n } in most_in y log) (sym limit) in
-        record { limit = limit; fits = omega (arith, fits, most); ends = subst (λ (n : ℕ). AllEndBy n behind) (sym most) ends }
+        record { limit = limit; fits = omega (arith, fits.ends, most); ends = subst (λ (n : ℕ). AllEndBy n behind) (sym most) ends; low = λ new. omega (arith, fits.low new, limit) }
 
     -- as the session has it
     pub due_last : (u : Session) → AfterPiece s [] u → IsDone root t behind (shown_log w log) d b u e

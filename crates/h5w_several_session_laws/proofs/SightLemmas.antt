@@ -2,15 +2,18 @@
 use Rattle.std.proofs.Common.{◌≡◌, ℕ, zero, suc, ◌+◌, ◌<◌, ◌≤◌, cond, Bool, false, List, [], ◌∷◌, ◌++◌, length, take, refl, sym, ◌∙◌, ap, subst, inl, inr, arith, length-append, append-nil, append_assoc}
 use Rattle.std.specs.Prelude.{nat_le, ◌==◌, ℤ}
 use Rattle.std.proofs.lemmas.Bool.{cases_lt, cond_both, cond-true, cond-false, eq-eqb, leb-true, le-leb, lt-leb}
-use Rattle.h5w_model.specs.Logs.{Log, Happening, and_now, appends, plans, shows, shown, appended, appended_in, flushed, flushed_in, events_at, at_position}
+use Rattle.h5w_model.specs.Logs.{Log, Happening, and_now, appends, plans, shows, shown, hist, appended, appended_in, flushed, flushed_in, events_at, at_position}
+use Rattle.h5w_model.specs.Images.{image}
 use Rattle.h5w_model.specs.Prefixed.{PrefixedEach, ReadsNow}
 use Rattle.h5w_model.specs.Several.{Begun, FileLog, Happened, appends_to, log_of, pieces_in, plans_each, seen_by, shown_in, shows_all, up_to}
 use Rattle.h5w_model.specs.declared.piece.Write.{Write}
 use Rattle.h5w_laws.proofs.LogLemmas.{events_at_earlier, events_at_now, flushed_begins, length_hist, position_laws, rises_behind}
 use Rattle.h5w_laws.proofs.EventLemmas.{each_kept}
+use Rattle.h5w_session.specs.Loads.{first_end_of}
 use Rattle.h5w_session.specs.Openings.{opened_log}
 use Rattle.h5w_session.specs.Told.{pausing, showing, told_log}
 use Rattle.h5w_session.proofs.ToldLemmas.{told_laws}
+use Rattle.h5w_several_session_laws.specs.Began.{BeginsOver, began_end}
 use Rattle.h5w_several_session_laws.specs.Seen.{IsSeen}
 use Rattle.h5w_several_session_laws.specs.Standing.{and_then}
 use Rattle.h5w_several_session_laws.proofs.SeenLemmas.{all_flushed, many_own, now_seen, shown_seen}
@@ -88,8 +91,11 @@ module _ (log : FileLog) (d : ℕ) (b : Begun) (l : Log) (later : List Write) (s
   abbrev count : ℕ
   count = shown_in log.events
 
-  own_shown : shown l.events ≡ count + length later
-  own_shown = sym (length_hist l.events) ∙ many_own log d b l later s
+  abbrev led : ℕ
+  led = length s.lead
+
+  own_shown : led + shown l.events ≡ count + length later
+  own_shown = ap (λ (n : ℕ). led + n) (sym (length_hist l.events)) ∙ many_own log d b l later s
 
   -- it is told of pieces of others
   pub seen_told : IsSettled l → (n : ℕ) (ws : List Write) → IsSeen log d b (told_log n ws l) (later ++ ws)
@@ -102,12 +108,17 @@ module _ (log : FileLog) (d : ℕ) (b : Begun) (l : Log) (later : List Write) (s
       let back : (p : ℕ) → shown l.events ≤ p → flushed (at_position (told_log n ws l) p) ≡ flushed l =
       λ p high. level-showing ws p l.values (flushed l) es all (omega (arith, high, shown-pausing n l.events)) in
       record {
+        lead = s.lead;
         start = s.start;
+        begins = s.begins;
         columns = s.columns;
         values = s.values;
         first = s.first;
-        pieces = told_laws.pieces n ws l ∙ ap (λ (vs : List Write). vs ++ ws) s.pieces ∙ append_assoc (pieces_in log.events) later ws;
+        pieces =
+            ap (λ (vs : List Write). s.lead ++ vs) (told_laws.pieces n ws l) ∙ sym (append_assoc s.lead (hist l.events) ws)
+            ∙ ap (λ (vs : List Write). vs ++ ws) s.pieces ∙ append_assoc (pieces_in log.events) later ws;
         appended = told_laws.appended n ws l ∙ s.appended;
+        now = whole ∙ s.now;
         alike = λ p low. elim (cases_lt p (shown l.events)) [
           | inl under ↦ front p under ∙ s.alike p low
           | inr over ↦ back p over ∙ ap flushed (sym (position_laws.now l p over)) ∙ s.alike p low
@@ -126,20 +137,21 @@ module _ (log : FileLog) (d : ℕ) (b : Begun) (l : Log) (later : List Write) (s
   seen_planned settled all counts =
       let m = up_to d counts in
       let now : appended sight ≡ flushed sight = sym s.appended ∙ all ∙ all_flushed log d b l later s in
-      let shows_same : shown sight.events ≡ count = shown_seen d log.events in
+      let planned : flushed sight ≡ flushed_in 0 b.values (plans m ∷ sight.events) = cond_both (nat_le m 0) (appended sight) (flushed sight) (λ (vs : List ℤ). flushed sight ≡ vs) (λ u. sym now) (λ u. refl) in
       record {
+        lead = s.lead;
         start = s.start;
+        begins = s.begins;
         columns = s.columns;
         values = s.values;
         first = s.first;
         pieces = s.pieces;
         appended = s.appended;
+        now = s.now ∙ planned;
         alike = λ p low.
             s.alike p low
-            ∙ cond_both (nat_le (shown sight.events) p) (plans m ∷ sight.events) (events_at p sight.events) (λ (xs : List Happening). flushed_in 0 b.values (events_at p sight.events) ≡ flushed_in 0 b.values xs)
-            (λ t.
-            ap (flushed_in 0 b.values) (events_at_now p sight.events (leb-true (shown sight.events) p t))
-            ∙ cond_both (nat_le m 0) (appended sight) (flushed sight) (λ (vs : List ℤ). flushed sight ≡ vs) (λ u. sym now) (λ u. refl))
+            ∙ cond_both (nat_le (shown sight.events) (led + p)) (plans m ∷ sight.events) (events_at (led + p) sight.events) (λ (xs : List Happening). flushed_in 0 b.values (events_at (led + p) sight.events) ≡ flushed_in 0 b.values xs)
+            (λ t. ap (flushed_in 0 b.values) (events_at_now (led + p) sight.events (leb-true (shown sight.events) (led + p) t)) ∙ planned)
             (λ t. refl);
         level = s.level;
         ahead = λ k.
@@ -151,13 +163,18 @@ module _ (log : FileLog) (d : ℕ) (b : Begun) (l : Log) (later : List Write) (s
   -- a flush is planned in which these are its pieces
   pub seen_flushed : IsSettled l → (counts : List ℕ) (k : ℕ) → 0 < k → up_to d counts ≡ length later + k → IsSeen (and_then (plans_each counts) log) d b (and_now (plans k) l) later
   seen_flushed settled counts k some is = record {
+    lead = s.lead;
     start = s.start;
+    begins = s.begins;
     columns = s.columns;
     values = s.values;
     first = s.first;
     pieces = s.pieces;
     appended = s.appended;
-    alike = λ p low. plans_at k p l.values l.events some ∙ s.alike p low ∙ sym (plans_at (up_to d counts) p b.values sight.events (omega (arith, some, is)));
+    now =
+        cond-false (nat_le k 0) (appended l) (flushed l) (lt-leb k 0 some) ∙ s.now
+        ∙ sym (cond-false (nat_le (up_to d counts) 0) (appended sight) (flushed sight) (lt-leb (up_to d counts) 0 (omega (arith, some, is))));
+    alike = λ p low. plans_at k p l.values l.events some ∙ s.alike p low ∙ sym (plans_at (up_to d counts) (led + p) b.values sight.events (omega (arith, some, is)));
     level = λ p high. plans_at k p l.values l.events some ∙ s.level p high ∙ sym (cond-false (nat_le k 0) (appended l) (flushed l) (lt-leb k 0 some));
     ahead = λ j.
         let order : nat_le (up_to d counts) (length later + j) ≡ nat_le k j = ap (λ (m : ℕ). nat_le m (length later + j)) is ∙ same_order (length later) k j in
@@ -172,6 +189,7 @@ module _ (log : FileLog) (d : ℕ) (b : Begun) (l : Log) (later : List Write) (s
 pub seen_shown : (log : FileLog) (d : ℕ) (b : Begun) (l : Log) (w : Write) (later : List Write) → IsSeen log d b l (w ∷ later) → IsSeen (and_then (shows_all w) log) d b l later
 seen_shown log d b l w later s =
     let n = shown_in log.events in
+    let led : ℕ = length s.lead in
     let view : Log = log_of d b log in
     let es = seen_by d log.events in
     let same : shown es ≡ n = shown_seen d log.events in
@@ -180,15 +198,18 @@ seen_shown log d b l w later s =
     let one : flushed_in 1 b.values es ≡ flushed_in (suc (length later) + 0) b.values es =
     squeezed 1 (suc (length later) + 0) b.values es (omega arith) (let low = rises_behind 0 1 b.values es (omega arith) in omega (arith, low, ap length last, ap length now)) in
     record {
+      lead = s.lead;
       start = s.start;
+      begins = s.begins;
       columns = s.columns;
       values = s.values;
       first = s.first;
       pieces = s.pieces ∙ sym (append_assoc (pieces_in log.events) (w ∷ []) later);
       appended = s.appended;
-      alike = λ p low. elim (cases_lt p (n + 1)) [
-        | inl under ↦ s.alike p (omega (arith, under)) ∙ ap (flushed_in 0 b.values) (sym (events_at_earlier p (shows w) es (omega (arith, under, same))))
-        | inr over ↦ s.level p (omega (arith, over)) ∙ last ∙ sym one ∙ ap (flushed_in 0 b.values) (sym (events_at_now p (shows w ∷ es) (omega (arith, over, same))))
+      now = last ∙ sym one;
+      alike = λ p low. elim (cases_lt (led + p) (n + 1)) [
+        | inl under ↦ s.alike p (omega (arith, under)) ∙ ap (flushed_in 0 b.values) (sym (events_at_earlier (led + p) (shows w) es (omega (arith, under, same))))
+        | inr over ↦ s.level p (omega (arith, over)) ∙ last ∙ sym one ∙ ap (flushed_in 0 b.values) (sym (events_at_now (led + p) (shows w ∷ es) (omega (arith, over, same))))
       ];
       level = λ p high. s.level p (omega (arith, high));
       ahead = λ k. s.ahead k ∙ ap (λ (m : ℕ). flushed_in m b.values es) (let e : suc (length later) + k ≡ (length later + k) + 1 = omega arith in e);
@@ -198,23 +219,29 @@ seen_shown log d b l w later s =
 pub seen_own : (log : FileLog) (d : ℕ) (b : Begun) (l : Log) (w : Write) → IsSeen log d b l [] → IsSeen (and_then (shows_all w) log) d b (and_now (shows w) l) []
 seen_own log d b l w s =
     let n = shown_in log.events in
+    let led : ℕ = length s.lead in
     let es = seen_by d log.events in
     let same : shown es ≡ n = shown_seen d log.events in
-    let own : shown l.events ≡ n = own_shown log d b l [] s ∙ (let e : n + 0 ≡ n = omega arith in e) in
+    let own : led + shown l.events ≡ n = own_shown log d b l [] s ∙ (let e : n + 0 ≡ n = omega arith in e) in
     record {
+      lead = s.lead;
       start = s.start;
+      begins = s.begins;
       columns = s.columns;
       values = s.values;
       first = s.first;
-      pieces = ap (λ (vs : List Write). vs ++ w ∷ []) (s.pieces ∙ append-nil (pieces_in log.events)) ∙ sym (append-nil (pieces_in log.events ++ w ∷ []));
+      pieces =
+          sym (append_assoc s.lead (hist l.events) (w ∷ [])) ∙ ap (λ (vs : List Write). vs ++ w ∷ []) (s.pieces ∙ append-nil (pieces_in log.events))
+          ∙ sym (append-nil (pieces_in log.events ++ w ∷ []));
       appended = s.appended;
-      alike = λ p low. elim (cases_lt p (n + 1)) [
+      now = s.ahead 1;
+      alike = λ p low. elim (cases_lt (led + p) (n + 1)) [
         | inl under ↦
             ap (flushed_in 0 l.values) (events_at_earlier p (shows w) l.events (omega (arith, under, own))) ∙ s.alike p (omega (arith, under))
-            ∙ ap (flushed_in 0 b.values) (sym (events_at_earlier p (shows w) es (omega (arith, under, same))))
+            ∙ ap (flushed_in 0 b.values) (sym (events_at_earlier (led + p) (shows w) es (omega (arith, under, same))))
         | inr over ↦
             ap (flushed_in 0 l.values) (events_at_now p (shows w ∷ l.events) (omega (arith, over, own))) ∙ s.ahead 1
-            ∙ ap (flushed_in 0 b.values) (sym (events_at_now p (shows w ∷ es) (omega (arith, over, same))))
+            ∙ ap (flushed_in 0 b.values) (sym (events_at_now (led + p) (shows w ∷ es) (omega (arith, over, same))))
       ];
       level = λ p high. ap (flushed_in 0 l.values) (events_at_now p (shows w ∷ l.events) (omega (arith, high, own)));
       ahead = λ k. s.ahead (k + 1) ∙ ap (λ (m : ℕ). flushed_in m b.values es) (let e : 0 + (k + 1) ≡ (0 + k) + 1 = omega arith in e);
@@ -228,7 +255,9 @@ seen_appended log d b l vs s =
     let es = seen_by d log.events in
     let is : appends vs ∷ es ≡ seen_by d (appends_to d vs ∷ log.events) = sym (cond-true (d == d) (appends vs ∷ es) es (eq-eqb d d refl)) in
     record {
+      lead = s.lead;
       start = s.start;
+      begins = s.begins;
       columns = s.columns;
       values = s.values;
       first = s.first;
@@ -236,9 +265,10 @@ seen_appended log d b l vs s =
       appended =
           subst (λ (xs : List Happening). appended (and_now (appends vs) l) ≡ b.values ++ appended_in xs) is
           (sym (append_assoc l.values (appended_in l.events) vs) ∙ ap (λ (xs : List ℤ). xs ++ vs) s.appended ∙ append_assoc b.values (appended_in es) vs);
+      now = subst (λ (xs : List Happening). flushed (and_now (appends vs) l) ≡ flushed_in 0 b.values xs) is s.now;
       alike = λ p low.
-          subst (λ (xs : List Happening). flushed (at_position (and_now (appends vs) l) p) ≡ flushed_in 0 b.values (events_at p xs)) is
-          (appends_at vs p l.values l.events ∙ s.alike p low ∙ sym (appends_at vs p b.values es));
+          subst (λ (xs : List Happening). flushed (at_position (and_now (appends vs) l) p) ≡ flushed_in 0 b.values (events_at (length s.lead + p) xs)) is
+          (appends_at vs p l.values l.events ∙ s.alike p low ∙ sym (appends_at vs (length s.lead + p) b.values es));
       level = λ p high. appends_at vs p l.values l.events ∙ s.level p high;
       ahead = λ k. subst (λ (xs : List Happening). flushed_in k l.values l.events ≡ flushed_in (0 + k) b.values xs) is (s.ahead k);
     }
@@ -251,13 +281,16 @@ pub seen_other : (log : FileLog) (d e : ℕ) (b : Begun) (l : Log) (vs : List �
 seen_other log d e b l vs later other s =
     let is = sym (others_values d e vs log.events other) in
     record {
+      lead = s.lead;
       start = s.start;
+      begins = s.begins;
       columns = s.columns;
       values = s.values;
       first = s.first;
       pieces = s.pieces;
       appended = subst (λ (xs : List Happening). appended l ≡ b.values ++ appended_in xs) is s.appended;
-      alike = λ p low. subst (λ (xs : List Happening). flushed (at_position l p) ≡ flushed_in 0 b.values (events_at p xs)) is (s.alike p low);
+      now = subst (λ (xs : List Happening). flushed l ≡ flushed_in 0 b.values xs) is s.now;
+      alike = λ p low. subst (λ (xs : List Happening). flushed (at_position l p) ≡ flushed_in 0 b.values (events_at (length s.lead + p) xs)) is (s.alike p low);
       level = s.level;
       ahead = λ k. subst (λ (xs : List Happening). flushed_in k l.values l.events ≡ flushed_in (length later + k) b.values xs) is (s.ahead k);
     }
@@ -277,20 +310,28 @@ each_next name log e h d b l later is own seen each =
 
 -- ---- The beginning
 
--- over a file that was opened nothing happened yet
-pub seen_begun : (img : List ℕ) (bs : List Begun) (d : ℕ) (b : Begun) → IsSeen (record { start = img; sets = bs; first = 0; events = [] }) d b (opened_log img b.columns b.values) []
-seen_begun img bs d b = record {
-  start = refl;
-  columns = refl;
-  values = refl;
-  first = refl;
-  pieces = refl;
-  appended = refl;
-  alike = λ p low. refl;
-  level = λ p high. refl;
-  ahead = λ k. refl;
-}
+-- over a file that was opened, or behind the pieces by which it is created, nothing happened yet
+pub seen_begun : (log : FileLog) (d : ℕ) (b : Begun) (ws : List Write) → log.events ≡ [] → log.first ≡ length ws → BeginsOver log (opened_log (image log.start ws) b.columns b.values) → IsSeen log d b (opened_log (image log.start ws) b.columns b.values) ws
+seen_begun log d b ws none first begins =
+    let es : [] ≡ log.events = sym none in
+    record {
+      lead = ws;
+      start = refl;
+      begins = begins;
+      columns = refl;
+      values = refl;
+      first = first ∙ (let e : length ws ≡ length ws + 0 = omega arith in e);
+      pieces = append-nil ws ∙ ap (λ (xs : List Happened). pieces_in xs ++ ws) es;
+      appended = ap (λ (xs : List Happened). b.values ++ appended_in (seen_by d xs)) es;
+      now = ap (λ (xs : List Happened). flushed_in 0 b.values (seen_by d xs)) es;
+      alike = λ p low. ap (λ (xs : List Happened). flushed_in 0 b.values (events_at (length ws + p) (seen_by d xs))) es;
+      level = λ p high. refl;
+      ahead = λ k. ap (λ (xs : List Happened). flushed_in (length ws + k) b.values (seen_by d xs)) es;
+    }
 
--- but that pieces are pending, as the superblock's
-pub seen_opened : (img : List ℕ) (bs : List Begun) (d : ℕ) (b : Begun) (n : ℕ) (ws : List Write) → IsSeen (record { start = img; sets = bs; first = 0; events = [] }) d b (told_log n ws (opened_log img b.columns b.values)) ws
-seen_opened img bs d b n ws = seen_told (record { start = img; sets = bs; first = 0; events = [] }) d b (opened_log img b.columns b.values) [] (seen_begun img bs d b) (λ k. refl) n ws
+-- over a file that was opened, but that pieces are pending, as the superblock's
+pub seen_opened : (img : List ℕ) (bs : List Begun) (d : ℕ) (b : Begun) (n : ℕ) (ws : List Write) → first_end_of (opened_log img b.columns b.values) ≡ began_end (record { start = img; sets = bs; first = 0; events = [] })
+    → IsSeen (record { start = img; sets = bs; first = 0; events = [] }) d b (told_log n ws (opened_log img b.columns b.values)) ws
+seen_opened img bs d b n ws end =
+    let log : FileLog = record { start = img; sets = bs; first = 0; events = [] } in
+    seen_told log d b (opened_log img b.columns b.values) [] (seen_begun log d b [] refl refl (inl (refl, end))) (λ k. refl) n ws

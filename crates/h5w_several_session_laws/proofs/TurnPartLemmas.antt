@@ -39,6 +39,7 @@ use Rattle.h5w_session.specs.Starts.{HasFlushed}
 use Rattle.h5w_session.specs.Told.{moved_to, told_log, told_of}
 use Rattle.h5w_session.proofs.StandLemmas.{resting}
 use Rattle.h5w_session.specs.PartLaws.{ArePassed, IsPartFlushed, PartLaws, RunsAs, rooted}
+use Rattle.h5w_several_session_laws.specs.Began.{IsAmple, began_end}
 use Rattle.h5w_several_session_laws.specs.Seen.{IsSeen}
 use Rattle.h5w_several_session_laws.specs.Standing.{IsDone, IsOwed, last_image, most_in, rested}
 use Rattle.h5w_several_session_laws.proofs.PassedLemmas.{ArePassedBy, IsPassedBy, all_passed, passed_joined}
@@ -51,14 +52,20 @@ pub last_joined : (log : FileLog) (ws vs : List Write) → last_image log (ws ++
 last_joined log ws vs = ap (image log.start) (sym (append_assoc (pieces_in log.events) ws vs)) ∙ image-append log.start (pieces_in log.events ++ ws) vs
 
 pub own_image : (log : FileLog) (d : ℕ) (b : Begun) (l : Log) (later : List Write) → IsSeen log d b l later → image_now l ≡ last_image log later
-own_image log d b l later s = ap (λ (st : List ℕ). image st (hist l.events)) s.start ∙ ap (image log.start) s.pieces
+own_image log d b l later s = ap (λ (st : List ℕ). image st (hist l.events)) s.start ∙ sym (image-append log.start s.lead (hist l.events)) ∙ ap (image log.start) s.pieces
 
 pub ends_back : (end : ℕ) (ws vs : List Write) → AllEndBy end (ws ++ vs) → AllEndBy end vs
 ends_back end [] vs all = all
 ends_back end (w ∷ ws) vs all = ends_back end ws vs all.1
 
-pub own_most : (log : FileLog) (d : ℕ) (b : Begun) (l : Log) (later : List Write) (t : Space) (s : Session) → IsSeen log d b l later → s.places.limit ≡ t.limit → most_of s l ≡ most_in t log
-own_most log d b l later t s seen limit = ap (λ (st : List ℕ). max s.places.limit (first_end_of (record l { start = st }))) seen.start ∙ ap (λ (n : ℕ). max n (first_end_of (record l { start = log.start }))) limit
+pub own_most : (log : FileLog) (d : ℕ) (b : Begun) (l : Log) (later : List Write) (t : Space) (s : Session) → IsSeen log d b l later → s.places.limit ≡ t.limit → IsAmple t log → most_of s l ≡ most_in t log
+own_most log d b l later t s seen limit low = elim seen.begins [
+  | inl same ↦ ap (λ (n : ℕ). max n (first_end_of l)) limit ∙ ap (max t.limit) same.1
+  | inr new ↦ both s.places.limit t.limit (first_end_of l) (began_end log) limit new.1 (low new.0)
+]
+  where
+    both : (a c x y : ℕ) → a ≡ c → x ≤ y → y ≤ c → max a x ≡ max c y
+    both a c x y same under fits = omega (arith, same, under, fits)
 
 -- what is bound by the loads of both logs is the same
 pub own_load : (log : FileLog) (d : ℕ) (b : Begun) (l : Log) (later : List Write) (c : Cutting) → IsSeen log d b l later → load c l ≡ load c (log_of d b log)
@@ -152,6 +159,19 @@ pub record Stretches (t u : Space) (log : FileLog) (ws : List Write) : Type 0 wh
   pub limit : u.limit ≡ t.limit
   pub fits : u.end ≤ most_in t log
   pub ends : AllEndBy (most_in t log) ws
+  pub low : IsAmple t log
+
+-- the end is within the file's bounds
+pub record IsWithin (t : Space) (log : FileLog) : Type 0 where
+  pub ends : t.end ≤ most_in t log
+  pub low : IsAmple t log
+
+-- so it is of what a part of the flush leaves
+pub within_then : (t u : Space) (log : FileLog) (ws : List Write) → Stretches t u log ws → IsWithin u log
+within_then t u log ws x = record {
+  ends = omega (arith, x.fits, ap (λ (n : ℕ). max n (began_end log)) x.limit);
+  low = λ new. omega (arith, x.low new, x.limit);
+}
 
 module _ (p : PartLaws) (log : FileLog) (us : List Used) where
   -- ---- A dataset that is passed by
@@ -164,7 +184,7 @@ module _ (p : PartLaws) (log : FileLog) (us : List Used) where
       let o : Entry = entry s.name r.after r.address r.held in
       let same : e ≡ o = entry_is s.name e at [] x.own t name x.runs in
       let here : img ≡ image_now x.own = is ∙ sym (own_image log d b x.own all x.seen) in
-      let most : most_of at x.own ≡ most_in t log = own_most log d b x.own all t at x.seen refl in
+      let most : most_of at x.own ≡ most_in t log = own_most log d b x.own all t at x.seen refl stretch.low in
       let known = subst (λ (i : List ℕ). IsPassedBy i ws to u us o) here (subst (λ (y : Entry). IsPassedBy img ws to u us y) same by) in
       let told = p.passed at x.own r ws to u early known.plan known.one.knows known.one.held_is known.passed stretch.limit (omega (arith, stretch.fits, most)) (subst (λ (n : ℕ). AllEndBy n ws) (sym most) stretch.ends) in
       let next = p.told at x.own r ws to u told.0 in
@@ -245,7 +265,7 @@ module _ (p : PartLaws) (log : FileLog) (us : List Used) where
     pub apart : AreOff (ds ++ es)
 
   module _ (img : List ℕ) (root : Super) (t : Space) (all : List Write) (d : ℕ) (b : Begun) (ds : List Entry) (e : Entry) (es : List Entry) (s n : Session) (is : img ≡ last_image log all) (st : State img t root us ds (e ∷ es))
-      (blocks : (u : Used) → Among u us → u.chunk ≡ false) (x : IsDone root t all log d b s e) (name : e.name ≡ s.name) (idle : s.pending ≡ []) (going : s.stopped ≡ false) (flushes : HasFlushed (told_of s root t) n) (bounded : AllEndBy n.places.end n.pending) where
+      (blocks : (u : Used) → Among u us → u.chunk ≡ false) (x : IsDone root t all log d b s e) (name : e.name ≡ s.name) (idle : s.pending ≡ []) (going : s.stopped ≡ false) (flushes : HasFlushed (told_of s root t) n) (bounded : AllEndBy n.places.end n.pending) (low : IsAmple t log) where
     abbrev os : List Entry
     os = ds ++ es
 
@@ -390,11 +410,12 @@ module _ (p : PartLaws) (log : FileLog) (us : List Used) where
     stretch =
         let past = f.runs.running.past in
         let limit = f.raised.limit in
-        let most : most_of n (and_now (plans (length n.pending)) x.own) ≡ most_in t log = own_most log d b x.own all t n x.seen limit in
+        let most : most_of n (and_now (plans (length n.pending)) x.own) ≡ most_in t log = own_most log d b x.own all t n x.seen limit low in
         record {
           limit = limit;
           fits = omega (arith, past.fits, most);
           ends = subst (λ (k : ℕ). AllEndBy k n.pending) most (ends_back (most_of n (and_now (plans (length n.pending)) x.own)) (hist x.own.events) n.pending past.ends);
+          low = low;
         }
 
     -- ---- The part as it was planned

@@ -1,5 +1,5 @@
 -- All names over a flush of several datasets, part after part.
-use Rattle.std.proofs.Common.{◌≡◌, ℕ, suc, ◌≤◌, false, List, [], ◌∷◌, ◌++◌, refl, sym, ◌∙◌, ap, subst, inl, inr, arith}
+use Rattle.std.proofs.Common.{◌≡◌, ℕ, suc, false, List, [], ◌∷◌, ◌++◌, refl, sym, ◌∙◌, ap, subst, inl, inr}
 use Rattle.h5w_model.specs.Images.{image}
 use Rattle.h5w_model.specs.Findings.{Used}
 use Rattle.h5w_model.specs.Several.{Begun, FileLog}
@@ -19,11 +19,11 @@ use Rattle.h5w_session.specs.Sessions.{Session}
 use Rattle.h5w_session.specs.Told.{told_of}
 use Rattle.h5w_session.specs.PartLaws.{PartLaws}
 use Rattle.h5w_several_session_laws.specs.Sessions.{AreFlushed, all_pending}
-use Rattle.h5w_several_session_laws.specs.Standing.{AreStandingParts, last_image, most_in}
+use Rattle.h5w_several_session_laws.specs.Standing.{AreStandingParts, last_image}
 use Rattle.h5w_several_session_laws.specs.Valid.{names_in}
 use Rattle.h5w_several_session_laws.proofs.PassedLemmas.{beside_told}
-use Rattle.h5w_several_session_laws.proofs.TurnPartLemmas.{IsTurned, flushed_named, last_joined, turned_part}
-use Rattle.h5w_several_session_laws.proofs.FoldPartLemmas.{AllOut, AllRest, is_done, most_same, next_state, rest_steps}
+use Rattle.h5w_several_session_laws.proofs.TurnPartLemmas.{IsTurned, IsWithin, flushed_named, last_joined, turned_part, within_then}
+use Rattle.h5w_several_session_laws.proofs.FoldPartLemmas.{AllOut, AllRest, is_done, next_state, rest_steps}
 use Rattle.h5w_several_session_laws.proofs.ValidLemmas.{known_there, off_clear, stays_joined}
 
 -- ---- One part
@@ -49,7 +49,7 @@ module _ (p : PartLaws) (log : FileLog) (us : List Used) where
 
 module _ (p : PartLaws) (log : FileLog) (us : List Used) (blocks : (u : Used) → Among u us → u.chunk ≡ false) where
   fold_valid : (root last : Super) (t end : Space) (all : List Write) (ds : List Entry) (d : ℕ) (bs : List Begun) (ss uu : List Session) (es : List Entry) → State (last_image log all) t root us ds es → AllRest root t us all log d bs ss es
-      → t.end ≤ most_in t log → AreFlushed root t ss last end uu → StaysValid (last_image log all) (onto (names_of ds) (names_of es)) (all_pending uu)
+      → IsWithin t log → AreFlushed root t ss last end uu → StaysValid (last_image log all) (onto (names_of ds) (names_of es)) (all_pending uu)
   fold_valid root last t end all ds d [] [] [] [] st rest fits x = tt
   fold_valid root last t end all ds d (b ∷ bs) (s ∷ ss) (u ∷ uu) (e ∷ es) st rest fits x =
       let i = rest.0.0 in
@@ -64,13 +64,12 @@ module _ (p : PartLaws) (log : FileLog) (us : List Used) (blocks : (u : Used) �
         | inr turn ↦
             let n = turn.0 in
             let flushes = turn.1 in
-            let turned = turned_part p log us img root t all d b ds e es s n refl st blocks one i.name rest.0.1 i.going flushes.flushed flushes.ends in
+            let turned = turned_part p log us img root t all d b ds e es s n refl st blocks one i.name rest.0.1 i.going flushes.flushed flushes.ends fits.low in
             let ws = n.pending in
             let next = flushed_entry e turned.parts in
             let state = subst (λ (y : List ℕ). State y n.places n.root us (next ∷ all_then n.root ds) (all_then n.root es)) (sym (last_joined log all ws)) turned.state in
-            let most = most_same t n.places log turned.stretch.limit in
             let later = fold_valid n.root last n.places end (all ++ ws) (next ∷ all_then n.root ds) (suc d) bs ss uu (all_then n.root es) state
-            (rest_steps p log us blocks img ws all root n.root t n.places (suc d) bs ss es refl turned.rest turned.stretch rest.1) (omega (arith, turned.stretch.fits, most)) turn.3 in
+            (rest_steps p log us blocks img ws all root n.root t n.places (suc d) bs ss es refl turned.rest turned.stretch rest.1) (within_then t n.places log ws turned.stretch) turn.3 in
             let named : onto (e.name ∷ names_of (all_then n.root ds)) (names_of (all_then n.root es)) ≡ names =
             ap (λ (ns : List (List ℕ)). onto (e.name ∷ ns) (names_of (all_then n.root es))) (names_then n.root ds) ∙ ap (λ (ns : List (List ℕ)). onto (e.name ∷ names_of ds) ns) (names_then n.root es) in
             let behind = subst (λ (k : List (List ℕ)). StaysValid (image img ws) k (all_pending uu)) named (subst (λ (y : List ℕ). StaysValid y (onto (e.name ∷ names_of (all_then n.root ds)) (names_of (all_then n.root es))) (all_pending uu)) (last_joined log all ws) later) in
@@ -84,7 +83,7 @@ module _ (p : PartLaws) (log : FileLog) (us : List Used) (blocks : (u : Used) �
   fold_valid root last t end all ds d (b ∷ bs) (s ∷ ss) uu [] st rest fits x = absurd rest
   fold_valid root last t end all ds d (b ∷ bs) (s ∷ ss) [] (e ∷ es) st rest fits x = absurd x
 
-  pub flush_valid : (root last : Super) (t end : Space) (bs : List Begun) (ss uu : List Session) (es : List Entry) → AreKnown (last_image log []) t root us es → AreOff es → AllRest root t us [] log 0 bs ss es → t.end ≤ most_in t log
+  pub flush_valid : (root last : Super) (t end : Space) (bs : List Begun) (ss uu : List Session) (es : List Entry) → AreKnown (last_image log []) t root us es → AreOff es → AllRest root t us [] log 0 bs ss es → IsWithin t log
       → AreFlushed root t ss last end uu → StaysValid (last_image log []) (names_of es) (all_pending uu)
   flush_valid root last t end bs ss uu es known off rest fits x = fold_valid root last t end [] [] 0 bs ss uu es (record { passed = tt; known = known; apart = tt; off = off; across = tt }) rest fits x
 

@@ -4,8 +4,9 @@ use Rattle.h5w_model.specs.Logs.{Cutting}
 use Rattle.h5w_model.specs.Several.{FileLog, appends_to, load_all, plans_each, shows_all, spent_all}
 use Rattle.h5w_model.specs.declared.piece.Write.{Write}
 use Rattle.h5w_session.specs.Sessions.{Session, cutting_of}
+use Rattle.h5w_several_session_laws.specs.Began.{began_end}
 use Rattle.h5w_several_session_laws.specs.Sessions.{AfterPieceOf, AppendsTo, FlushesAll, SameButHeld, Sessions, all_pending, closed_all, counts_of, keeping, stopped_all}
-use Rattle.h5w_several_session_laws.specs.Standing.{StandsAll, and_then, began_end}
+use Rattle.h5w_several_session_laws.specs.Standing.{StandsAll, and_then}
 
 -- how the rows of each dataset are cut into chunks
 abbrev pub cuttings_of : List Session → List Cutting

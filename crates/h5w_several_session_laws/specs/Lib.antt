@@ -1,3 +1,4 @@
+pub mod Began
 pub mod Seen
 pub mod Sessions
 pub mod Valid

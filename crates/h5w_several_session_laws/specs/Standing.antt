@@ -1,12 +1,10 @@
 -- Of which logs of a file a session of several datasets can be the session.
 use Rattle.std.specs.Prelude.{◌≡◌, ◌≢◌, ◌⊎◌, ℕ, suc, ◌≤◌, max, true, false, List, [], ◌∷◌, ◌++◌}
-use Rattle.h5w_model.specs.Numbers.{range}
 use Rattle.h5w_model.specs.Images.{image}
 use Rattle.h5w_model.specs.Findings.{Used}
 use Rattle.h5w_model.specs.Logs.{Log}
 use Rattle.h5w_model.specs.Prefixed.{PrefixedEach}
 use Rattle.h5w_model.specs.Several.{Begun, FileLog, Happened, log_of, pieces_in}
-use Rattle.h5w_model.specs.Superblock.{super_at}
 use Rattle.h5w_model.specs.declared.piece.Write.{Write}
 use Rattle.h5w_model.specs.declared.root.Super.{Super}
 use Rattle.h5w_visits.specs.Ranges.{Among}
@@ -17,10 +15,10 @@ use Rattle.h5w_steps.specs.Plans.{Plan}
 use Rattle.h5w_several_laws.specs.Beside.{with_root}
 use Rattle.h5w_several_laws.specs.Together.{names_of}
 use Rattle.h5w_several_laws.specs.Turns.{AreKnown, AreOff, Entry}
-use Rattle.h5w_session.specs.Loads.{end_in}
 use Rattle.h5w_session.specs.Sessions.{AllEndBy, Session}
 use Rattle.h5w_session.specs.PartLaws.{ArePassed, RunsAs}
 use Rattle.h5w_session.specs.Told.{moved_to, told_of}
+use Rattle.h5w_several_session_laws.specs.Began.{IsAmple, began_end}
 use Rattle.h5w_several_session_laws.specs.Seen.{IsSeen}
 use Rattle.h5w_several_session_laws.specs.Valid.{AreValidFrom}
 use Rattle.h5w_several_session_laws.specs.Sessions.{Sessions, all_pending, bare, halted, stopped_all}
@@ -33,10 +31,7 @@ and_then e log = record log { events = e ∷ log.events }
 abbrev pub last_image : FileLog → List Write → List ℕ
 last_image log left = image log.start (pieces_in log.events ++ left)
 
--- the end-of-file address of the file that the log began with, and the most bytes that the file may come to
-abbrev pub began_end : FileLog → ℕ
-began_end log = end_in (super_at (range log.start 0 48))
-
+-- the most bytes that the file may come to
 abbrev pub most_in : Space → FileLog → ℕ
 most_in t log = max t.limit (began_end log)
 
@@ -106,6 +101,7 @@ pub record StandsOn (S : Sessions) (log : FileLog) : Type 0 where
   pub blocks : (u : Used) → Among u ranges → u.chunk ≡ false
   pub parts : AreStandingParts S.root S.places ranges (all_pending S.parts) log 0 log.sets [] S.parts entries
   pub fits : S.places.end ≤ most_in S.places log
+  pub low : IsAmple S.places log
   pub ends : AllEndBy (most_in S.places log) (pieces_in log.events ++ all_pending S.parts)
   pub going : S.stopped ≡ false
   -- no finding applies to all names together, at no position that was and at none that is to come

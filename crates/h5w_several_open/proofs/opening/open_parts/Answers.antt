@@ -1,7 +1,9 @@
-use Rattle.std.proofs.Common.{◌≡◌, Err, rules}
+use Rattle.std.proofs.Common.{◌≡◌, ℕ, List, Err, rules, subst}
+use Rattle.h5w_found.specs.Ran.{seen}
 use Rattle.h5w_image.proofs.ViewLemmas.{looked_twice}
 use Rattle.h5w_looks.proofs.ReadLemmas.{still_on}
-use Rattle.h5w_several_open.proofs.OpenLemmas.{no_front_answer}
+use Rattle.h5w_several_open.proofs.OpenLemmas.{no_front_answer, open_answer}
+use Rattle.h5w_several_open.specs.Progress.{ArePartsAnswer}
 use Rattle.h5w_several_open.proofs.opening.open_parts.Goals as goal
 
 pub returns-in_err-front-clause-exact : goal.returns-in_err-front-clause-exact
@@ -18,4 +20,5 @@ pub returns-clause-exact : goal.returns-clause-exact
 returns-clause-exact g c img still =
     let a = c.args in
     let f = c.in_ok-front in
-    c.parts_at.ensures.exact img a.size (still_on img f.ensures.ran.looked still) (rw c.deref.ensures.value (f.ensures.ran.exact img still))
+    open_answer img a.size a.names.now a.limit a.budget f.front.root f.front.places.items _ (f.ensures.ran.exact img still)
+    (subst (λ (ps : List ℕ). ArePartsAnswer img f.front.root a.names.now ps a.limit a.budget (seen (λ v. v.items) c.parts_at.result)) c.deref.ensures.value (c.parts_at.ensures.exact img (still_on img f.ensures.ran.looked still)))

@@ -1,5 +1,6 @@
-use Rattle.std.proofs.Common.{◌≡◌, ◌<◌, Err, length, arith, rules, ap}
-use Rattle.h5w_several_open.proofs.OpenLemmas.{called_by, ends_unfit, ends_well, goes_on, stops}
+use Rattle.std.proofs.Common.{◌≡◌, ◌<◌, None, Err, length, arith, rules, ap, subst, sym}
+use Rattle.h5w_several_open.specs.Progress.{SoFar}
+use Rattle.h5w_several_open.proofs.OpenLemmas.{begins, called_by, ends_unfit, ends_well, goes_on, stops}
 use Rattle.h5w_image.proofs.ViewLemmas.{looked_twice}
 use Rattle.h5w_several_open.proofs.opening.parts_at.Goals as goal
 
@@ -18,6 +19,12 @@ returns-in_err-part-clause-exact g c =
 
 pub returns-in_err-keep-clause-looked : goal.returns-in_err-keep-clause-looked
 returns-in_err-keep-clause-looked g c = looked_twice c.loop-k.invariant.looked c.in_ok-part.ensures.step.looked
+
+pub loop-k-init : goal.loop-k-init
+loop-k-init g c =
+    let a = c.args in
+    let v = g.I.PieceRead.view a.image.now in
+    subst (SoFar v v a.root a.names.now a.places.now a.limit a.budget 0 None) (sym c.new-parts.ensures.items) (begins v a.root a.names.now a.places.now a.limit a.budget)
 
 pub loop-k-preserved : goal.loop-k-preserved
 loop-k-preserved g c =

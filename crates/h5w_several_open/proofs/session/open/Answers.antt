@@ -4,8 +4,9 @@ use Rattle.h5w_session.specs.Sessions.{Session}
 use Rattle.h5w_several_session_laws.specs.Sessions.{Sessions}
 use Rattle.h5w_several_session_laws.specs.Standing.{StandsAll}
 use Rattle.h5w_several_session.specs.Opened.{AreOpened, sessions_over}
-use Rattle.h5w_several_open.specs.Answers.{HasBegunWith, HaveBegun}
+use Rattle.h5w_several_open.specs.Answers.{HasBegunWith}
 use Rattle.h5w_several_open.specs.Stands.{opened_file}
+use Rattle.h5w_several_open.proofs.BegunLemmas.{begun_all, opened_all, opened_grown}
 use Rattle.h5w_several_open.proofs.SessionLemmas.{are_opened, as_many, first_root}
 use Rattle.h5w_several_open.proofs.StandLemmas.{opens_standing}
 use Rattle.h5w_several_open.proofs.session.open.Goals as goal
@@ -36,7 +37,30 @@ returns-clause-begun g c =
     let n = as_many (HasBegunWith a.limit a.budget h.root) a.names.now ss h.each in
     let some : 1 ≤ length ss = let m = c.requires.some in omega (arith, n, m) in
     let same : c.root-root.result ≡ h.root = c.root-root.ensures ∙ ap (λ (s : Session). s.root) c.index.ensures ∙ first_root a.limit a.budget h.root a.names.now ss c.index.result.now some h.each in
-    record { parts = ss; begun = h; is = c.over.ensures ∙ ap (λ (r : Super). sessions_over r a.limit ss) same }
+    let is : c.over.result ≡ sessions_over h.root a.limit ss = c.over.ensures.session ∙ ap (λ (r : Super). sessions_over r a.limit ss) same in
+    begun_all a.names.now a.limit a.budget ss c.over.result h some is c.over.ensures.sessions
+
+pub returns-clause-exact : goal.returns-clause-exact
+returns-clause-exact g c img still =
+    let a = c.args in
+    let h = c.in_ok-parts.ensures.begun in
+    let ss : List Session = c.in_ok-parts.parts.items in
+    let n = as_many (HasBegunWith a.limit a.budget h.root) a.names.now ss h.each in
+    let some : 1 ≤ length ss = let m = c.requires.some in omega (arith, n, m) in
+    let same : c.root-root.result ≡ h.root = c.root-root.ensures ∙ ap (λ (s : Session). s.root) c.index.ensures ∙ first_root a.limit a.budget h.root a.names.now ss c.index.result.now some h.each in
+    let is : c.over.result ≡ sessions_over h.root a.limit ss = c.over.ensures.session ∙ ap (λ (r : Super). sessions_over r a.limit ss) same in
+    opened_all img a.size a.names.now a.limit a.budget ss c.over.result h some is (c.in_ok-parts.ensures.exact img still)
+
+pub returns-clause-grown : goal.returns-clause-grown
+returns-clause-grown g c img sets still =
+    let a = c.args in
+    let h = c.in_ok-parts.ensures.begun in
+    let ss : List Session = c.in_ok-parts.parts.items in
+    let n = as_many (HasBegunWith a.limit a.budget h.root) a.names.now ss h.each in
+    let some : 1 ≤ length ss = let m = c.requires.some in omega (arith, n, m) in
+    let same : c.root-root.result ≡ h.root = c.root-root.ensures ∙ ap (λ (s : Session). s.root) c.index.ensures ∙ first_root a.limit a.budget h.root a.names.now ss c.index.result.now some h.each in
+    let is : c.over.result ≡ sessions_over h.root a.limit ss = c.over.ensures.session ∙ ap (λ (r : Super). sessions_over r a.limit ss) same in
+    opened_grown img a.size a.names.now a.limit a.budget ss c.over.result sets h some is (c.in_ok-parts.ensures.exact img still)
 
 pub returns-clause-stands : goal.returns-clause-stands
 returns-clause-stands g c img t sets still valid reads =
@@ -46,6 +70,6 @@ returns-clause-stands g c img t sets still valid reads =
     let n = as_many (HasBegunWith a.limit a.budget h.root) a.names.now ss h.each in
     let some : 1 ≤ length ss = let m = c.requires.some in omega (arith, n, m) in
     let same : c.root-root.result ≡ h.root = c.root-root.ensures ∙ ap (λ (s : Session). s.root) c.index.ensures ∙ first_root a.limit a.budget h.root a.names.now ss c.index.result.now some h.each in
-    let is : c.over.result ≡ sessions_over h.root a.limit ss = c.over.ensures ∙ ap (λ (r : Super). sessions_over r a.limit ss) same in
+    let is : c.over.result ≡ sessions_over h.root a.limit ss = c.over.ensures.session ∙ ap (λ (r : Super). sessions_over r a.limit ss) same in
     subst (λ (s : Sessions). StandsAll s (opened_file img sets)) (sym is)
     (opens_standing img a.size a.names.now t sets ss a.limit a.budget h.root valid reads (c.in_ok-parts.ensures.exact img still).each h.each some c.requires.low c.requires.high)

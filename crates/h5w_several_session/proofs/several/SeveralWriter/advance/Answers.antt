@@ -36,3 +36,9 @@ invariant_of-self-else-show_piece c =
     let lent = ap (λ (vs : List Session). length vs) value in
     let parts = back i.parts.len us i.parts.items x.1 (omega (arith, lent, c.deref_mut.ensures.len)) in
     (subst (λ (vs : List Session). AreCounted (record { root = i.root; places = i.places; parts = vs; stopped = i.stopped; keeps = i.keeps })) (sym parts) x.0, c.self.invariant.1)
+
+pub returns-then-show_piece-clause-sessions : goal.returns-then-show_piece-clause-sessions
+returns-then-show_piece-clause-sessions c = (invariant_of-self c).0.sessions
+
+pub returns-else-show_piece-clause-sessions : goal.returns-else-show_piece-clause-sessions
+returns-else-show_piece-clause-sessions c = (invariant_of-self-else-show_piece c).0.sessions

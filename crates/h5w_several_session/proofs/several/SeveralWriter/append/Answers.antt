@@ -78,3 +78,6 @@ returns-clause-stands g c =
     let going : S.stopped ≡ false = sym (ap (λ (v : Sessions). v.stopped) c.self.view_is) ∙ c.if-self.false in
     let idle : length (all_pending S.parts) ≡ 0 = omega (arith, c.pending-pending.ensures, c.if-pending-gt0.false) in
     append_stands c.append_waiting.result S _ c.args.d c.args.values.now going idle c.requires.rows (returns-clause-refused g c) (returns-clause-added g c)
+
+pub returns-clause-sessions : goal.returns-clause-sessions
+returns-clause-sessions g c = (invariant_of-self g c).0.sessions

@@ -35,3 +35,6 @@ returns-in-Ok-clause-reads c =
     let i = c.self.inside in
     let root : c.in-Ok.root ≡ closed_super c.args.self.now = c.in-Ok.ensures.root ∙ ap closed_super c.self.view_is in
     subst (λ (r : Super). super_at (super_bytes r) ≡ Ok r) root c.in-Ok.ensures.reads
+
+pub returns-in-Ok-clause-sessions : goal.returns-in-Ok-clause-sessions
+returns-in-Ok-clause-sessions c = (invariant_of-self c).0.sessions

@@ -28,3 +28,6 @@ invariant_of-self g c =
     let lent = ap (λ (vs : List Session). length vs) c.deref_mut.ensures.value in
     let parts = back i.parts.len n.parts i.parts.items (flushed_length S r n.root n.places n.parts f same) (omega (arith, lent, c.deref_mut.ensures.len)) in
     (subst (λ (vs : List Session). AreCounted (record { root = n.root; places = n.places; parts = vs; stopped = i.stopped; keeps = i.keeps })) (sym parts) x.0, c.self.invariant.1 ∙ sym x.1)
+
+pub returns-clause-sessions : goal.returns-clause-sessions
+returns-clause-sessions g c = (invariant_of-self g c).0.sessions

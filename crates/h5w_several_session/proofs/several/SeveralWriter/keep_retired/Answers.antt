@@ -10,3 +10,6 @@ invariant_of-self c = (counted_keeping _ c.self.invariant.0, c.self.invariant.1)
 
 pub returns-clause-stands : goal.returns-clause-stands
 returns-clause-stands c log stands = subst (λ (S : Sessions). StandsAll (keeping S) log) (sym c.self.view_is) (calls_stand.keeps c.args.self.now log stands)
+
+pub returns-clause-sessions : goal.returns-clause-sessions
+returns-clause-sessions c = let counted = (invariant_of-self c).0 in counted.sessions

@@ -20,3 +20,6 @@ invariant_of-result c =
     let long = ap (λ (vs : List Session). length vs) is ∙ settled_length root limit ss in
     let same = back c.args.parts.len us ss long (omega (arith, lent, c.deref_mut.ensures.len)) ∙ is in
     (subst AreCounted (λ j. record { root = root; places = sym c.new-places.ensures j; parts = sym same j; stopped = false; keeps = false }) k, ap (λ (t : Space). t.limit) (sym c.new-places.ensures))
+
+pub returns-clause-sessions : goal.returns-clause-sessions
+returns-clause-sessions c = (invariant_of-result c).0.sessions

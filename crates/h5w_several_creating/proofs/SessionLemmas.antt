@@ -1,0 +1,169 @@
+-- The sessions that begin over the datasets of a new file.
+use Rattle.std.proofs.Common.{◌≡◌, ℕ, suc, ◌+◌, ◌^◌, ◌<◌, ◌≤◌, false, List, [], ◌∷◌, ◌++◌, length, refl, sym, ◌∙◌, ap, subst, inl, inr, arith, append_assoc}
+use Rattle.std.specs.Prelude.{IfOk, OnOk, Result, Ok, Err}
+use Rattle.std.proofs.lemmas.List.Elements.{All-nil}
+use Rattle.h5w_model.specs.Arrays.{eahd_len}
+use Rattle.h5w_model.specs.Datasets.{Described}
+use Rattle.h5w_model.proofs.MessageLemmas.{length-shape_bytes, shape_rank}
+use Rattle.h5w_space.specs.Space.{Apart, extent}
+use Rattle.h5w_header_laws.specs.Spelled.{spelled_header}
+use Rattle.h5w_header_laws.proofs.SpelledLemmas.{spelled_read}
+use Rattle.h5w_index.specs.Views.{IndexView, IsSound}
+use Rattle.h5w_chunks.specs.Grids.{dataset_of}
+use Rattle.h5w_creation_laws.specs.CreatedFiles.{CreatedFile, IsCreatable, described_of}
+use Rattle.h5w_creation.specs.Forms.{created_by}
+use Rattle.h5w_creation.specs.Made.{IsNewIndex}
+use Rattle.h5w_creation.proofs.FormLemmas.{creatable}
+use Rattle.h5w_several_creation_laws.specs.SeveralFiles.{block_behind, described_at, end_behind, end_from, index_behind}
+use Rattle.h5w_several_creation_laws.proofs.PlaceLemmas.{end_above}
+use Rattle.h5w_several_creation_laws.proofs.SetLemmas.{long_at, spellable_at}
+use Rattle.h5w_several_creation.specs.Forms.{HasRoom, all_by, any_by}
+use Rattle.h5w_session.specs.Creations.{places_to}
+use Rattle.h5w_session.specs.PartLaws.{super_piece}
+use Rattle.h5w_session.specs.Sessions.{IsSession, IsWritable, Session}
+use Rattle.h5w_session.proofs.EarlyLemmas.{none_touched}
+use Rattle.h5w_session.proofs.HeaderAlone.{head_ends}
+use Rattle.h5w_session.proofs.SessionStarts.{empty_index}
+use Rattle.h5w_session.proofs.StateLemmas.{up_some}
+use Rattle.h5w_several_session.specs.Opened.{AreOpened, rested, sessions_at_rest}
+use Rattle.h5w_several_session_laws.specs.Sessions.{Sessions}
+use Rattle.h5w_several_creating.specs.Created.{AreIndexes, created_part, created_parts}
+use Rattle.h5w_several_creating.specs.Parts.{AddsParts, IsMold, IsPartOver, over_part, over_parts}
+use Rattle.h5w_several_creating.specs.declared.parts.Mold.{Mold}
+use Rattle.h5w_several_creating.proofs.PartLemmas.{no_chunk}
+
+-- ---- One part
+
+writable : (place : ℕ) (f : CreatedFile) → IsCreatable f → end_behind place f < 2 ^ 62 → IsWritable (spelled_header (described_at place f))
+writable place f is small =
+    let d = described_at place f in
+    let s = spellable_at place f is small in
+    let read = spelled_read d s in
+    let shape = length-shape_bytes d.shape s.shape in
+    let long = long_at place f is small in
+    let rank : 1 ≤ d.shape.rank = elim (shape_rank d.shape s.shape) [ inl one ↦ omega (arith, one) | inr two ↦ omega (arith, two) ] in
+    record { some = omega (arith, long); list = _; space = _; read = read.alone; first = refl; long = omega (arith, shape, rank) }
+
+pub short_header : (place : ℕ) (f : CreatedFile) → IsCreatable f → end_behind place f < 2 ^ 62 → length (spelled_header (described_at place f)) ≤ 512
+short_header place f is small = (spelled_read (described_at place f) (spellable_at place f is small)).short
+
+pub made_is : (m : Mold) (place : ℕ) (name : List ℕ) (v : IndexView) → IsMold m → HasRoom name → 48 ≤ place → end_behind place (created_by name m.form) ≤ m.root.end → IsSound v
+    → IsNewIndex m.form.index (index_behind place (created_by name m.form)) (block_behind place (created_by name m.form)) v → IsSession (over_part m place name v)
+made_is m place name v mold room begun ends sound new =
+    let f = created_by name m.form in
+    let is = creatable name m.form mold.form room.0 room.1 in
+    let end = mold.small in
+    let small : end_behind place f < 2 ^ 62 = omega (arith, ends, end) in
+    let none = no_chunk place f is in
+    let long = long_at place f is small in
+    let empty = empty_index f.index (index_behind place f) (block_behind place f) v m.root.end (λ e. refl) (omega (arith, ends)) (omega (arith, ends, end)) (omega (arith, ends, end)) new in
+    record {
+      some_columns = is.some_columns;
+      cells = omega arith;
+      few = omega (arith, none);
+      version = mold.version;
+      begun = omega (arith, begun, ends);
+      kind = empty.is_kind;
+      sound = sound;
+      fits = record { kind = empty.is_kind; some = up_some f.columns f.chunk_cols (omega (arith, is.some_cols)) (omega (arith, is.some_columns)) };
+      header = writable place f is small;
+      addressed = λ undefined. absurd (omega (arith, undefined, ends, end));
+      header_ends = omega (arith, long, ends);
+      small = omega (arith, end);
+      limit = mold.limit;
+      inside = λ key from named. absurd (named (empty.map key));
+      tops = λ whole. empty.tops;
+      blank = λ unmade key. empty.map key;
+      live = λ unmade. record { within = omega (arith, begun, ends); off_free = All-nil (Apart (extent 0 48)); off_retired = All-nil (Apart (extent 0 48)) };
+      early = omega arith;
+      chunks = sym (none_touched (described_at place f) (described_at place f).shape.rows);
+      placed = λ k p here. absurd cc;
+      ends = λ k p here. absurd cc;
+      flushing = λ e. refl;
+      busy = λ e. absurd cc;
+      budget_low = mold.budget_low;
+      budget_high = mold.budget_high;
+      head = λ named lacking. subst (λ (n : ℕ). n + eahd_len ≤ m.root.end) (sym empty.place) (head_ends v m.root.end lacking empty.tops);
+    }
+
+-- a dataset of the form, with its index behind the header
+pub moved : (m : Mold) (place : ℕ) (name : List ℕ) → IsMold m
+    → ◌≡◌ {A = Described} (record (dataset_of m.grid) { layout = record ((dataset_of m.grid).layout) { address = place + m.header_len } }) (described_at place (created_by name m.form))
+moved m place name mold =
+    ap (λ (d : Described). let e : Described = record d { layout = record (d.layout) { address = place + m.header_len } } in e) mold.dataset
+    ∙ ap (λ (n : ℕ). let e : Described = record (described_of (any_by m.form)) { layout = record ((described_of (any_by m.form)).layout) { address = place + n } } in e) mold.long
+
+pub moved_index : (m : Mold) (place : ℕ) (name : List ℕ) (v : IndexView) → IsMold m → IsNewIndex m.form.index (place + m.header_len) (place + m.header_len + 72) v
+    → IsNewIndex m.form.index (index_behind place (created_by name m.form)) (block_behind place (created_by name m.form)) v
+moved_index m place name v mold new = subst (λ (n : ℕ). IsNewIndex m.form.index (place + n) (place + n + 72) v) mold.long new
+
+-- the session over a dataset with this header
+abbrev pub over_with : Mold → ℕ → List ℕ → Described → List ℕ → IndexView → Session
+over_with m place name d header v = record (over_part m place name v) { header = header; dataset = d; committed = d.shape.rows }
+
+pub over_is : (m : Mold) (place : ℕ) (name : List ℕ) (d : Described) (header : List ℕ) (v : IndexView) → d ≡ described_at place (created_by name m.form) → header ≡ spelled_header d → over_with m place name d header v ≡ over_part m place name v
+over_is m place name d header v is spelled = λ k. record (over_part m place name v) { header = (spelled ∙ ap spelled_header is) k; dataset = is k; committed = (is k).shape.rows }
+
+pub part_answer : {E : Type 0} (m : Mold) (place : ℕ) (name : List ℕ) (x : Session) (v : IndexView) (r : Result Session E) → x ≡ over_part m place name v → IsSound v
+    → IsNewIndex m.form.index (index_behind place (created_by name m.form)) (block_behind place (created_by name m.form)) v → IfOk r (λ s. s ≡ x) → IfOk r (IsPartOver m place name)
+part_answer m place name x v (Ok s) is sound new e = record { index = v; sound = sound; new = new; is = e ∙ is }
+part_answer m place name x v (Err e) is sound new h = tt
+
+-- ---- All of them
+
+-- the first of them ends within the file
+pub within_first : (m : Mold) (place : ℕ) (name : List ℕ) (names all : List (List ℕ)) → all ≡ name ∷ names → end_from place (all_by all m.form) ≤ m.root.end → end_behind place (created_by name m.form) ≤ m.root.end
+within_first m place name names all is ends =
+    let e = ap (λ (ns : List (List ℕ)). end_from place (all_by ns m.form)) is in
+    let more = end_above (end_behind place (created_by name m.form)) (all_by names m.form) in
+    omega (arith, ends, e, more)
+
+-- one more, and those behind it
+pub adds_one : (m : Mold) (place next : ℕ) (name : List ℕ) (names : List (List ℕ)) (s : Session) (old mid new : List Session) → IsPartOver m place name s → mid ≡ old ++ s ∷ [] → next ≡ end_behind place (created_by name m.form)
+    → AddsParts m next names mid new → AddsParts m place (name ∷ names) old new
+adds_one m place next name names s old mid new p push at x =
+    let y = subst (λ (n : ℕ). AddsParts m n names mid new) at x in
+    let behind = over_parts m (end_behind place (created_by name m.form)) names y.indexes in
+    record {
+      indexes = p.index ∷ y.indexes;
+      are = ((p.sound, p.new), y.are);
+      is =
+          y.is ∙ ap (λ (ss : List Session). ss ++ behind) push ∙ append_assoc old (s ∷ []) behind
+          ∙ ap (λ (z : Session). old ++ z ∷ behind) p.is;
+    }
+
+pub added : {A E : Type 0} (m : Mold) (place next : ℕ) (name : List ℕ) (names : List (List ℕ)) (s : Session) (old mid new : List Session) (r : Result A E) → IsPartOver m place name s → mid ≡ old ++ s ∷ []
+    → next ≡ end_behind place (created_by name m.form) → OnOk r (AddsParts m next names mid new) → OnOk r (AddsParts m place (name ∷ names) old new)
+added m place next name names s old mid new (Ok a) p push at x = adds_one m place next name names s old mid new p push at x
+added m place next name names s old mid new (Err e) p push at x = tt
+
+pub all_opened : (m : Mold) (place : ℕ) (names : List (List ℕ)) (vs : List IndexView) → AreOpened m.root.end (over_parts m place names vs)
+all_opened m place [] vs = tt
+all_opened m place (name ∷ names) [] = tt
+all_opened m place (name ∷ names) (v ∷ vs) =
+    (record { ends = omega arith; going = refl; first = super_piece m.root; pending = refl; calm = refl; early = refl }, all_opened m (end_behind place (created_by name m.form)) names vs)
+
+pub many_over : (m : Mold) (place : ℕ) (names : List (List ℕ)) (vs : List IndexView) → AreIndexes place (all_by names m.form) vs → length (over_parts m place names vs) ≡ length names
+many_over m place [] vs x = refl
+many_over m place (name ∷ names) [] x = absurd x
+many_over m place (name ∷ names) (v ∷ vs) x = ap suc (many_over m (end_behind place (created_by name m.form)) names vs x.1)
+
+rested_made : (m : Mold) (place : ℕ) (names : List (List ℕ)) (vs : List IndexView)
+    → rested m.root (places_to m.root.end m.limit) (over_parts m place names vs) ≡ created_parts m.root (places_to m.root.end m.limit) m.budget place (all_by names m.form) vs
+rested_made m place [] vs = refl
+rested_made m place (name ∷ names) [] = refl
+rested_made m place (name ∷ names) (v ∷ vs) =
+    ap (λ (ss : List Session). created_part m.root (places_to m.root.end m.limit) m.budget place (created_by name m.form) v ∷ ss) (rested_made m (end_behind place (created_by name m.form)) names vs)
+
+-- the session of all of them, with nothing pending
+abbrev pub made_all : Mold → ℕ → List (List ℕ) → List IndexView → Sessions
+made_all m place names vs = record {
+  root = m.root;
+  places = places_to m.root.end m.limit;
+  parts = created_parts m.root (places_to m.root.end m.limit) m.budget place (all_by names m.form) vs;
+  stopped = false;
+  keeps = false;
+}
+
+pub all_rest : (m : Mold) (place : ℕ) (names : List (List ℕ)) (vs : List IndexView) → sessions_at_rest m.root m.limit (over_parts m place names vs) ≡ made_all m place names vs
+all_rest m place names vs = ap (λ (ss : List Session). let S : Sessions = record { root = m.root; places = places_to m.root.end m.limit; parts = ss; stopped = false; keeps = false } in S) (rested_made m place names vs)

@@ -1,0 +1,3 @@
+pub mod Created
+pub mod Laws
+pub mod Parts

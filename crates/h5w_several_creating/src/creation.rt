@@ -1,0 +1,72 @@
+//! A session of several datasets that creates its file.
+ghost use Rattle.std.specs.Prelude.{◌≡◌, ◌*◌, ◌^◌, ◌≤◌, IfOk, length};
+ghost use Rattle.h5w_creation.specs.Forms.{IsForm};
+ghost use Rattle.h5w_several_creation_laws.specs.SeveralFiles.{AllNamed, created_writes};
+ghost use Rattle.h5w_several_creation.specs.Forms.{AreNames, all_by};
+ghost use Rattle.h5w_several_session_laws.specs.Standing.{StandsAll};
+ghost use Rattle.h5w_several_creating.specs.Created.{IsCreatedAll, created_file, led, shown_file};
+
+use crate::parts::{Mold, add_parts};
+use h5w_creation::{Form, create_file};
+use h5w_model::{OutOfMemory, Write};
+use h5w_names::Names;
+use h5w_several_creation::{create_files, first_place};
+use h5w_several_session::SeveralWriter;
+use std::alloc::Global;
+
+/// A new file: the pieces that make it, in the order in which they become visible, and the session over it that goes on
+/// once all of them are.
+#[derive(Drop)]
+pub struct NewSession {
+    /// Of each dataset those of its index and then its header; the root header, which links them in the order of their
+    /// names; last the superblock, by which a reader finds the file.
+    pub writes: Vec<Write>,
+    pub session: SeveralWriter,
+}
+
+/// A new file with a dataset of this form under each of these names, and the session that appends rows to all, up to
+/// `limit` bytes of the file, of which at most `budget` bytes of each dataset wait unwritten. Refused only for want of
+/// memory: nothing was done then.
+pub fn create(
+    alloc: Global,
+    names: &Names,
+    form: &Form,
+    limit: u64,
+    budget: u64,
+) -> Result<NewSession, OutOfMemory>
+    requires form { IsForm form.now }
+    requires names { AreNames names.now }
+    requires named { AllNamed names.now }
+    requires low { 1024 * length names.now ≤ limit }
+    requires high { limit ≤ 2 ^ 40 }
+    requires budget { (1024 ≤ budget) × (budget ≤ 2 ^ 30) }
+    ensures writes { IfOk result (λ c. c.writes.items ≡ created_writes (all_by names.now form.now)) }
+    // with these pieces pending it is the session that creates the file
+    ensures session { IfOk result (λ c. IsCreatedAll (all_by names.now form.now) limit budget (led c.writes.items c.session)) }
+    ensures begins { IfOk result (λ c. StandsAll (led c.writes.items c.session) (created_file (all_by names.now form.now))) }
+    // and it stands for the log in which they are shown
+    ensures stands { IfOk result (λ c. StandsAll c.session (shown_file (all_by names.now form.now))) }
+{
+    let created = create_files(alloc, names, form)?;
+    let one = create_file(alloc, b"a", form)?;
+    let mold = Mold {
+        root: created.root,
+        form: *form,
+        grid: one.grid,
+        header_len: one.header.len() as u64,
+        limit,
+        budget,
+    };
+    let mut parts = Vec::new(alloc);
+    add_parts(
+        alloc,
+        names.as_slice(),
+        &mold,
+        first_place(names),
+        &mut parts,
+    )?;
+    Ok(NewSession {
+        writes: created.writes,
+        session: SeveralWriter::at_rest(parts, created.root, limit),
+    })
+}
