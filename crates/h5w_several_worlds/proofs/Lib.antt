@@ -1,0 +1,6 @@
+pub mod ShownLemmas
+pub mod StepLemmas
+pub mod AppendLemmas
+pub mod FlushLemmas
+pub mod ReaderLemmas
+pub mod RefusalLemmas
