@@ -1,5 +1,5 @@
-"""Files of several datasets: as h5py makes them, with the check of all names in one call, in every order of the names; and as the program
-makes them, with what other tools read and write."""
+"""Files of several datasets: as h5py makes them, with the check of all names in one call, in every order of the names, and appends
+to all of them in one call; and as the program makes them, with what other tools read and write."""
 import itertools
 import os
 import re
@@ -126,7 +126,92 @@ def ours(folder, kind, names, columns):
     return found + seen(file, kind, held, columns) + polled(file, held, columns)
 
 
+# ---- Appends by several names
+
+
+def width_of(name):
+    return SETS[name][1][1] if len(SETS[name][1]) > 1 else 1
+
+
+def rows_in(name, values):
+    return [values[at : at + width_of(name)] for at in range(0, len(values), width_of(name))]
+
+
+def batches_of(names, turn):
+    """Some batches: how many rows each dataset gets in it, in the order in which the lines name them."""
+    few = [(name, 3 + 2 * at + turn) for at, name in enumerate(names)]
+    many = [(name, 40 + 7 * at) for at, name in enumerate(reversed(names))]
+    return [few, [(names[-1], 1)], [], [(names[0], 2), (names[-1], 3), (names[0], 1)], many]
+
+
+def input_of(names, held, batches):
+    """The lines of these batches, with values behind those that each dataset has, and the lines that the program writes of them."""
+    lines, wanted, used = [], [], names[0]
+    for batch in batches:
+        for name, count in batch:
+            lines += [f"use {names.index(name) + 1}"] if name != used else []
+            used = name
+            more = values_of(SETS[name][0], len(held[name]) + count * width_of(name))[-count * width_of(name) :]
+            lines += [" ".join(map(str, it)) for it in rows_in(name, more)]
+            held[name] += more
+        lines.append("")
+        wanted += [f"rows {' '.join(str(len(rows_in(it, held[it]))) for it in names)}"] if batch else []
+    return "\n".join(lines) + "\n", "\n".join([*wanted, f"closed {' '.join(str(len(rows_in(it, held[it]))) for it in names)}"]) + "\n"
+
+
+def read_all(file, names, held):
+    """What h5py, h5dump, a poll of each name and a check of all of them read otherwise."""
+    found = []
+    with h5py.File(file, "r") as opened:
+        for name in names:
+            found += of(f"h5py {name}", opened[name][...].ravel().tolist(), held[name])
+    for name in names:
+        text = run(["h5dump", "-y", "-w", "1", "-d", f"/{name}", file])
+        found += of(f"h5dump {name}", text.split("DATA {")[-1].split("}")[0].replace(",", " ").split(), [str(it) for it in held[name]])
+        rows = rows_in(name, held[name])
+        found += of(f"poll {name}", run([PROGRAM, "poll", file, "--name", name, "--values"]), "".join(f"{it}\n" for it in [f"rows {len(rows)}", *(" ".join(map(str, it)) for it in rows)]))
+    numbers = " ".join(str(len(rows_in(it, held[it]))) for it in names)
+    said = run([PROGRAM, "check", file, "--name", ",".join(names)])
+    return found + ([] if re.fullmatch(rf"valid rows {numbers} chunks \d+ blocks \d+ end {os.path.getsize(file)} lost \d+\n", said) else [f"check: {said!r}"])
+
+
+def together(folder, names):
+    """h5py makes the file; the program appends to all its datasets in one call, then h5py to each, and the program once more."""
+    file, found = f"{folder}/f.h5", []
+    made(file, names)
+    held = {name: values_of(SETS[name][0], SETS[name][1][0] * width_of(name)) for name in names}
+    for turn in range(2):
+        text, wanted = input_of(names, held, batches_of(names, turn))
+        found += of("append", run([PROGRAM, "append", file, "--name", ",".join(names)], text), wanted) + read_all(file, names, held)
+        with h5py.File(file, "r+", libver="latest") as opened:
+            for name in names:
+                more = values_of(SETS[name][0], len(held[name]) + 5 * width_of(name))[-5 * width_of(name) :]
+                opened[name].resize(opened[name].shape[0] + 5, axis=0)
+                opened[name][-5:] = more if width_of(name) == 1 else rows_in(name, more)
+                held[name] += more
+        found += read_all(file, names, held)
+    return found
+
+
+def refused(folder, names):
+    """Lines that say nothing, and names that lead to one dataset: what was closed before stays, and nothing else."""
+    file, found = f"{folder}/f.h5", []
+    made(file, names)
+    held = {name: values_of(SETS[name][0], SETS[name][1][0] * width_of(name)) for name in names}
+    words = [PROGRAM, "append", file, "--name", ",".join(names)]
+    for bad in (f"use {len(names) + 1}", "use 0", "use", "use  1", "use 01", "use 1 ", "Use 1"):
+        text, wanted = input_of(names, held, [[(name, 1) for name in names]])
+        found += of(bad, run(words, text + "use 2\n" + bad + "\n"), f"status 8: {wanted.splitlines()[0]}\nerror line {len(text.splitlines()) + 2}\n")
+    with h5py.File(file, "r+", libver="latest") as opened:
+        opened["again"] = opened[names[1]]
+    found += of("one header", run([*words[:-1], ",".join([*names, "again"])], "1\n"), f"status 4: error writer same 2 {len(names) + 1}\n")
+    return found + read_all(file, names, held)
+
+
 def trials():
+    for names in (("line", "table"), ("table", "line", "fixed"), ("fixed", "empty", "line", "table")):
+        yield f"appends to {', '.join(names)} in one call, which h5py makes and appends to meanwhile", lambda folder, it=list(names): together(folder, it)
+    yield "appends in one call that are refused", lambda folder: refused(folder, ["line", "fixed"])
     for count in (2, 3, 4):
         for names in itertools.combinations(SETS, count):
             yield f"h5py makes {', '.join(names)}; a check of all", lambda folder, it=names: checked(folder, it)

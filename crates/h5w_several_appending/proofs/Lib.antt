@@ -1,0 +1,12 @@
+pub mod CountLemmas
+pub mod SetLemmas
+pub mod PutLemmas
+pub mod PartLemmas
+pub mod LogLemmas
+pub mod StoreLemmas
+pub mod StepLemmas
+pub mod InputLemmas
+pub mod ShutLemmas
+pub mod OpenLemmas
+pub mod TellLemmas
+pub mod EndLemmas

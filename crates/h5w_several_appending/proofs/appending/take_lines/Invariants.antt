@@ -1,0 +1,14 @@
+use Rattle.std.proofs.Common.{◌≡◌, ◌+◌, length}
+use Rattle.h5w_input.specs.LinesAhead.{lines_ahead}
+use Rattle.h5w_several_appending.proofs.InputLemmas.{Taking}
+use Rattle.h5w_several_appending.proofs.appending.take_lines.Given as goal
+
+abbrev pub invariant-loop-line : goal.invariant-loop-line
+invariant-loop-line g l = record {
+  taking : Taking l.fn.faults l.fn.file l.fn.columns l.fn.session l.session (lines_ahead (g.S.Source.view l.fn.lines.source.now) l.fn.lines.intake.now) (lines_ahead (g.S.Source.view l.lines.source.now) l.lines.intake.now) l.number l.used (g.D.Disk.view l.fn.disk) (g.D.Disk.view l.disk) (g.K.Sink.view l.fn.sink) (g.K.Sink.view l.sink);
+  same_reference : l.lines.source.ghost_name ≡ l.fn.lines.source.ghost_name;
+  same_intake : l.lines.intake.ghost_name ≡ l.fn.lines.intake.ghost_name;
+}
+
+abbrev pub decreases-loop-line : goal.decreases-loop-line
+decreases-loop-line g l = length l.lines.intake.now.held + l.lines.intake.now.more

@@ -1,0 +1,15 @@
+pub use Rattle.h5w_model.specs.Numbers
+pub use Rattle.h5w_model.specs.Causes
+pub use Rattle.h5w_model.specs.Findings
+pub use Rattle.h5w_image.specs.View
+pub use Rattle.h5w_text.specs.Streams
+pub use Rattle.h5w_text.specs.Says
+pub use Rattle.h5w_batches.specs.Batches
+pub use Rattle.h5w_batches.specs.Inputs
+pub use Rattle.h5w_several_batches.specs.SetLines
+pub use Rattle.h5w_several_batches.specs.SetInputs
+pub mod Taken
+pub mod Puts
+pub mod Stores
+pub mod Appending
+pub mod Tells
