@@ -27,6 +27,8 @@ mod restless;
 #[cfg(test)]
 mod rows;
 #[cfg(test)]
+mod several;
+#[cfg(test)]
 mod steps;
 #[cfg(test)]
 mod stops;

@@ -103,10 +103,6 @@ $ check f --name a --name b
 $ poll f --name a,b
 => error link none
 = 4
-$ append f --name a,b
-1
-=> error link none
-= 4
 $ play --type u8 --chunk 1 --name a,b
 flush
 => error usage

@@ -52,7 +52,7 @@ among : (P : List ℕ → Type 0) (xs ys : List (List ℕ)) (y : List ℕ) → A
 among P [] ys y h = All-head P y ys h
 among P (x ∷ xs) ys y h = among P xs ys y (All-tail P x (xs ++ y ∷ ys) h)
 
-at_file : (o : Option DiskState) (name bytes : List ℕ) (P : Option (List ℕ) → Type 0) → told_bytes o name ≡ Some bytes → IfSome o (λ d. P (file d name)) → P (Some bytes)
+pub at_file : (o : Option DiskState) (name bytes : List ℕ) (P : Option (List ℕ) → Type 0) → told_bytes o name ≡ Some bytes → IfSome o (λ d. P (file d name)) → P (Some bytes)
 at_file None name bytes P e h = absurd (cc)
 at_file (Some d) name bytes P e h = subst P e h
 
@@ -64,7 +64,7 @@ found_dataset first o h =
     ap (λ (s : Session). s.dataset) o.is ∙ ap (λ (s : Session). s.dataset) x.session ∙ ap (λ (f : Opened). f.header.dataset) same
 
 -- the lines of an input that is not too long begin with the first ones
-first_lines : (lines : List (List ℕ)) (input : List ℕ) → length input ≤ input_limit → AreFirst lines input → (behind : List (List ℕ)) × (lines_of input ≡ lines ++ behind)
+pub first_lines : (lines : List (List ℕ)) (input : List ℕ) → length input ≤ input_limit → AreFirst lines input → (behind : List (List ℕ)) × (lines_of input ≡ lines ++ behind)
 first_lines lines input bound (behind, inl all) = (behind, all.1)
 first_lines lines input bound (behind, inr long) = let over = long.0 in absurd (omega (arith, over, bound))
 
@@ -125,7 +125,7 @@ append_ends : {name at : List ℕ} {s : SourceView} {v : DiskView} (limit budget
 append_ends limit budget keeps t w front last h source disk (Ok a) p = inl refl
 append_ends limit budget keeps t w front last h source disk (Err e) p = inr (error_ends front last h source disk e p)
 
-known : (status given : Status) → status ≡ given → (given ≡ statuses.Done) ⊎ ((given ≡ statuses.Limit) ⊎ (given ≡ statuses.Memory)) → (status ≡ statuses.Done) ⊎ ((status ≡ statuses.Limit) ⊎ (status ≡ statuses.Memory))
+pub known : (status given : Status) → status ≡ given → (given ≡ statuses.Done) ⊎ ((given ≡ statuses.Limit) ⊎ (given ≡ statuses.Memory)) → (status ≡ statuses.Done) ⊎ ((status ≡ statuses.Limit) ⊎ (status ≡ statuses.Memory))
 known status given is (inl done) = inl (is ∙ done)
 known status given is (inr (inl limit)) = inr (inl (is ∙ limit))
 known status given is (inr (inr memory)) = inr (inr (is ∙ memory))

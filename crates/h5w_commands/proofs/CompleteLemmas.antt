@@ -24,7 +24,7 @@ use Rattle.h5w_repacking.proofs.EndLemmas.{repacks_whole}
 use Rattle.h5w_commands.specs.Runs.{DoesInside, DoesWhole, EndsWith, RanInside, RanWhole}
 use Rattle.h5w_commands.proofs.MakeLemmas.{makes_whole}
 use Rattle.h5w_commands.proofs.ReportLemmas.{stops_whole}
-use Rattle.h5w_commands.proofs.AppendEndLemmas.{appends_whole}
+use Rattle.h5w_commands.proofs.AppendLemmas.{append_whole}
 use Rattle.h5w_text.specs.declared.status.Status.{Status}
 use Rattle.h5w_text.specs.declared.status.Status.TheVariants.{Done, Usage, Missing, Exists, Format, Damaged, Flags, Again, Input, Limit, Disk, Source, Sink, Memory}
 
@@ -73,10 +73,10 @@ does_whole (Check file names) status s t k l v w does = checks_whole file names 
 does_whole (Poll file name times attempts values) status s t k l v w does = polls_whole file name times attempts values status does.1
 does_whole (Clear file upgrade) status s t k l v w does = clears_whole file upgrade status does.1
 does_whole (Make count seed) status s t k l v w does = makes_whole count seed status does.2
-does_whole (Append file name limit budget keeps) status s t k l v w does = appends_whole file name limit budget keeps status does
+does_whole (Append file names limit budget keeps) status s t k l v w does = append_whole s t k l v w file names limit budget keeps status does
 does_whole (Live options readers polls attempts mirrors) status s t k l v w does = absurd does
 does_whole (Stop options) status s t k l v w does = stops_whole options status does.0
-does_whole (Repack file to name limit ranges) status s t k l v w does = repacks_whole file to name limit ranges status does.1
+does_whole (Repack file to names limit ranges) status s t k l v w does = repacks_whole file to names limit ranges status does.1
 
 ended_whole : (job : Job) (ended : Ended) (s t : SourceView) (k l : SinkView) (v w : DiskView) → EndsWith (λ status. DoesInside job status s t k l v w) ended → EndsWith (λ status. DoesWhole job status s t k l v w) ended
 ended_whole job (ends.With status) s t k l v w does = does_whole job status s t k l v w does
@@ -91,7 +91,7 @@ ran_whole (Some (Check file names)) ended s t k l v w ran = ended_whole (Check f
 ran_whole (Some (Poll file name times attempts values)) ended s t k l v w ran = ended_whole (Poll file name times attempts values) ended s t k l v w ran
 ran_whole (Some (Clear file upgrade)) ended s t k l v w ran = ended_whole (Clear file upgrade) ended s t k l v w ran
 ran_whole (Some (Make count seed)) ended s t k l v w ran = ended_whole (Make count seed) ended s t k l v w ran
-ran_whole (Some (Append file name limit budget keeps)) ended s t k l v w ran = ended_whole (Append file name limit budget keeps) ended s t k l v w ran
+ran_whole (Some (Append file names limit budget keeps)) ended s t k l v w ran = ended_whole (Append file names limit budget keeps) ended s t k l v w ran
 ran_whole (Some (Live options readers polls attempts mirrors)) ended s t k l v w ran = ends_well (asked_by options readers polls attempts mirrors) ended ran.0
 ran_whole (Some (Stop options)) ended s t k l v w ran = ended_whole (Stop options) ended s t k l v w ran
-ran_whole (Some (Repack file to name limit ranges)) ended s t k l v w ran = ended_whole (Repack file to name limit ranges) ended s t k l v w ran
+ran_whole (Some (Repack file to names limit ranges)) ended s t k l v w ran = ended_whole (Repack file to names limit ranges) ended s t k l v w ran

@@ -11,7 +11,6 @@ use Rattle.h5w_text.specs.declared.error.ErrorLine.TheVariants as errors
 use Rattle.h5w_text.specs.declared.status.Status.{Status}
 use Rattle.h5w_words.specs.declared.job.Job.{Job}
 use Rattle.h5w_words.specs.declared.job.Job.TheVariants.{Play, New, Check, Poll, Clear, Make, Append, Live, Stop, Repack}
-use Rattle.h5w_appending.proofs.TellLemmas.{tells_end}
 use Rattle.h5w_running.specs.Runs.{asked_by}
 use Rattle.h5w_running.specs.declared.ended.Ended.{Ended}
 use Rattle.h5w_running.specs.declared.ended.Ended.TheVariants as ends
@@ -19,6 +18,7 @@ use Rattle.h5w_running.proofs.EndLemmas.{live_tells}
 use Rattle.h5w_commands.specs.Runs.{Does, DoesInside, EndsWith, Ran, RanInside}
 use Rattle.h5w_commands.specs.Stops.{IsRefused, IsRefusedBy, StopEnds, StopRefuses, StopRefusesBy, StopTells, StopsBy, StopsTo}
 use Rattle.h5w_commands.specs.Writing.{LacksPlace, LacksRoom, Refuses, RefusesBy}
+use Rattle.h5w_commands.proofs.AppendLemmas.{append_told}
 
 -- ---- A script of a writer alone
 
@@ -90,10 +90,10 @@ does_told (Check file names) status s t k l v w does = does
 does_told (Poll file name times attempts values) status s t k l v w does = does
 does_told (Clear file upgrade) status s t k l v w does = does
 does_told (Make count seed) status s t k l v w does = does
-does_told (Append file name limit budget keeps) status s t k l v w does = tells_end file name limit budget keeps status does
+does_told (Append file names limit budget keeps) status s t k l v w does = append_told s t k l v w file names limit budget keeps status does
 does_told (Live options readers polls attempts mirrors) status s t k l v w does = absurd does
 does_told (Stop options) status s t k l v w does = (stop_tells options status s t does.0, does.1)
-does_told (Repack file to name limit ranges) status s t k l v w does = does
+does_told (Repack file to names limit ranges) status s t k l v w does = does
 
 ended_told : (job : Job) (ended : Ended) (s t : SourceView) (k l : SinkView) (v w : DiskView) → EndsWith (λ status. DoesInside job status s t k l v w) ended → EndsWith (λ status. Does job status s t k l v w) ended
 ended_told job (ends.With status) s t k l v w does = does_told job status s t k l v w does
@@ -107,7 +107,7 @@ ran_told (Some (Check file names)) ended s t k l v w ran = ended_told (Check fil
 ran_told (Some (Poll file name times attempts values)) ended s t k l v w ran = ended_told (Poll file name times attempts values) ended s t k l v w ran
 ran_told (Some (Clear file upgrade)) ended s t k l v w ran = ended_told (Clear file upgrade) ended s t k l v w ran
 ran_told (Some (Make count seed)) ended s t k l v w ran = ended_told (Make count seed) ended s t k l v w ran
-ran_told (Some (Append file name limit budget keeps)) ended s t k l v w ran = ended_told (Append file name limit budget keeps) ended s t k l v w ran
+ran_told (Some (Append file names limit budget keeps)) ended s t k l v w ran = ended_told (Append file names limit budget keeps) ended s t k l v w ran
 ran_told (Some (Live options readers polls attempts mirrors)) ended s t k l v w ran = (live_tells (asked_by options readers polls attempts mirrors) ended ran.0, ran.1)
 ran_told (Some (Stop options)) ended s t k l v w ran = ended_told (Stop options) ended s t k l v w ran
-ran_told (Some (Repack file to name limit ranges)) ended s t k l v w ran = ended_told (Repack file to name limit ranges) ended s t k l v w ran
+ran_told (Some (Repack file to names limit ranges)) ended s t k l v w ran = ended_told (Repack file to names limit ranges) ended s t k l v w ran

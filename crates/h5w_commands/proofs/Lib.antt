@@ -7,9 +7,12 @@ pub mod RangeLemmas
 pub mod CompleteLemmas
 pub mod MakeLemmas
 pub mod AppendEndLemmas
+pub mod SeveralEndLemmas
+pub mod AppendLemmas
 pub mod ShowingLemmas
 pub mod WritingLemmas
 pub mod TakingLemmas
 pub mod ReportLemmas
 pub mod InsideLemmas
 pub mod NewLemmas
+pub mod NameLemmas

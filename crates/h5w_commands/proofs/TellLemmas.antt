@@ -30,7 +30,7 @@ use Rattle.h5w_commands.specs.Plays.{Begun, Finished, HasFirst, Plays}
 use Rattle.h5w_text.specs.declared.status.Status.{Status}
 use Rattle.h5w_text.specs.declared.status.Status.TheVariants.{Done, Usage, Missing, Exists, Format, Damaged, Flags, Again, Input, Limit, Disk, Source, Sink, Memory}
 use Rattle.h5w_commands.proofs.MakeLemmas.{makes_nothing}
-use Rattle.h5w_commands.proofs.AppendEndLemmas.{appends_nothing}
+use Rattle.h5w_commands.proofs.AppendLemmas.{none_appended}
 use Rattle.h5w_commands.proofs.ReportLemmas.{stops_nothing}
 use Rattle.h5w_files.proofs.SinkLemmas.{gave_both, gave_nothing, gave_then_some}
 use Rattle.h5w_batches.proofs.InputLemmas.{rose_before}
@@ -106,10 +106,10 @@ ran_wanting (Some (Check file names)) status s k l v said = (refl, checks_nothin
 ran_wanting (Some (Poll file name times attempts values)) status s k l v said = (refl, polls_nothing file name times attempts values status said)
 ran_wanting (Some (Clear file upgrade)) status s k l v said = (refl, clears_wanted file upgrade status said)
 ran_wanting (Some (Make count seed)) status s k l v said = (refl, refl, makes_nothing count seed status said)
-ran_wanting (Some (Append file name limit budget keeps)) status s k l v said = appends_nothing file name limit budget keeps status said
+ran_wanting (Some (Append file names limit budget keeps)) status s k l v said = none_appended s v k l file names limit budget keeps status said
 ran_wanting (Some (Live options readers polls attempts mirrors)) status s k l v said = (error_ends (asked_by options readers polls attempts mirrors) errors.Memory status tt (inl said), refl)
 ran_wanting (Some (Stop options)) status s k l v said = (stops_nothing options status said, refl)
-ran_wanting (Some (Repack file to name limit ranges)) status s k l v said = (refl, repacks_nothing file to name limit ranges status said)
+ran_wanting (Some (Repack file to names limit ranges)) status s k l v said = (refl, repacks_nothing file to names limit ranges status said)
 
 -- the words are outside the command set
 pub ran_outside : (o : Option Job) (status : Status) (s : SourceView) (k l : SinkView) (v : DiskView) → o ≡ None → Said (error_text errors.Usage) Usage status k l → RanInside o (outcomes.With status) s s k l v v
@@ -122,10 +122,10 @@ does_run (Check file names) status s t k l v w does = does
 does_run (Poll file name times attempts values) status s t k l v w does = does
 does_run (Clear file upgrade) status s t k l v w does = does
 does_run (Make count seed) status s t k l v w does = does
-does_run (Append file name limit budget keeps) status s t k l v w does = does
+does_run (Append file names limit budget keeps) status s t k l v w does = does
 does_run (Live options readers polls attempts mirrors) status s t k l v w does = absurd does
 does_run (Stop options) status s t k l v w does = does
-does_run (Repack file to name limit ranges) status s t k l v w does = does
+does_run (Repack file to names limit ranges) status s t k l v w does = does
 
 pub ran_job : (o : Option Job) (job : Job) (status : Status) (s t : SourceView) (k l : SinkView) (v w : DiskView) → o ≡ Some job → DoesInside job status s t k l v w → RanInside o (outcomes.With status) s t k l v w
 ran_job o job status s t k l v w e does = subst (λ (x : Option Job). RanInside x (outcomes.With status) s t k l v w) (sym e) (does_run job status s t k l v w does)
@@ -138,10 +138,10 @@ is_plain (Check file names) other = tt
 is_plain (Poll file name times attempts values) other = tt
 is_plain (Clear file upgrade) other = tt
 is_plain (Make count seed) other = tt
-is_plain (Append file name limit budget keeps) other = tt
+is_plain (Append file names limit budget keeps) other = tt
 is_plain (Live options readers polls attempts mirrors) other = other options readers polls attempts mirrors refl
 is_plain (Stop options) other = tt
-is_plain (Repack file to name limit ranges) other = tt
+is_plain (Repack file to names limit ranges) other = tt
 
 -- a run in threads
 pub ran_live : (o : Option Job) (job : Job) (options : Options) (readers polls attempts mirrors : ℕ) (ended : Ended) (s t : SourceView) (k l : SinkView) (v : DiskView) → o ≡ Some job → job ≡ Live options readers polls attempts mirrors

@@ -1,10 +1,11 @@
--- When an append to a file ends well.
-use Rattle.std.specs.Prelude.{◌≡◌, ◌⊎◌, ℕ, ◌≤◌, List, length, Some, None, Ok, ℤ}
+-- What an append to a file leaves, by how many datasets it names, and when it ends well.
+use Rattle.std.specs.Prelude.{◌≡◌, ◌⊎◌, ℕ, ◌≤◌, Bool, List, [], ◌∷◌, length, slice_get, Option, Some, None, Ok, ℤ}
 use Rattle.std.specs.List.{All}
 use Rattle.h5w_model.specs.Causes.{Rose}
 use Rattle.h5w_model.specs.Datasets.{Described}
 use Rattle.h5w_model.specs.Lawful.{first_outside}
 use Rattle.h5w_model.specs.Programs.{eval}
+use Rattle.h5w_model.specs.Relations.{AllPaired}
 use Rattle.h5w_image.specs.View.{DiskView}
 use Rattle.h5w_opening.specs.Openings.{Opened, looked_for}
 use Rattle.h5w_opening.specs.declared.error.OpenError.{OpenError}
@@ -16,6 +17,14 @@ use Rattle.h5w_text.specs.declared.status.Status.{Status}
 use Rattle.h5w_text.specs.declared.status.Status.TheVariants as statuses
 use Rattle.h5w_files.specs.Images.{told_bytes}
 use Rattle.h5w_batches.specs.Inputs.{input_limit}
+use Rattle.h5w_appending.specs.Appends.{AppendEnds}
+use Rattle.h5w_appending.specs.Tells.{IsDatasetIn, TellsEnd}
+use Rattle.h5w_several_open.specs.Answers.{IsNotOpenedBy}
+use Rattle.h5w_several_batches.specs.SetLines.{set_line_of, used_after}
+use Rattle.h5w_several_batches.specs.declared.line.SetLine.{SetLine}
+use Rattle.h5w_several_batches.specs.declared.line.SetLine.TheVariants.{Numbers, Use}
+use Rattle.h5w_several_appending.specs.Taken.{columns_of}
+use Rattle.h5w_several_appending.specs.Tells.{SeveralTells}
 
 -- a line of numbers has rows of a dataset, and each value is in the range of its type
 abbrev pub HasRows : Described → List ℕ → Type 0
@@ -39,3 +48,56 @@ pub record HasInput (name at : List ℕ) (s : SourceView) (v : DiskView) : Type 
 abbrev pub AppendEndsWell : List ℕ → List ℕ → Status → SourceView → SourceView → SinkView → SinkView → DiskView → DiskView → Type 0
 AppendEndsWell name at status s t k l v w =
     HasInput name at s v → (Rose s.faults t.faults → ⊥) → (Rose k.faults l.faults → ⊥) → (Rose v.faults w.faults → ⊥) → (status ≡ statuses.Done) ⊎ ((status ≡ statuses.Limit) ⊎ (status ≡ statuses.Memory))
+
+-- ---- Several datasets
+
+-- what a line says where this dataset is in use is within the types: each value is in the range of that dataset's
+abbrev pub IsWithin : List Described → ℕ → SetLine → Type 0
+IsWithin ds used (Numbers values) = (d : Described) → slice_get ds used ≡ Some d → first_outside d.int_type 0 values ≡ None
+IsWithin ds used (Use d) = Unit {0}
+
+-- Lines say something, one after another, where this dataset is in use before them: rows of the dataset in use, of values of its type, or which
+-- is in use next.
+abbrev pub AllSay : List Described → ℕ → List (List ℕ) → Type 0
+AllSay ds used [] = Unit {0}
+AllSay ds used (line ∷ lines) = (said : SetLine) × (set_line_of (columns_of ds) used line ≡ Some said) × IsWithin ds used said × AllSay ds (used_after used said) lines
+
+-- A disk tells a file of this name, which nothing refuses to open by all of these names, and a source tells an input, which is not too long; its
+-- lines say something of the file's datasets, of which the first is in use at first.
+pub record HasSeveralInput (name : List ℕ) (names : List (List ℕ)) (s : SourceView) (v : DiskView) : Type 0 where
+  pub bytes : List ℕ
+  pub told : told_bytes v.told name ≡ Some bytes
+  pub unrefused : (e : OpenError) → IsNotOpenedBy bytes (length bytes) names e → ⊥
+  pub ds : List Described
+  pub are : AllPaired (IsDatasetIn bytes) names ds
+  pub input : List ℕ
+  pub given : s.left ≡ Some input
+  pub bound : length input ≤ input_limit
+  pub lines : AllSay ds 0 (lines_of input)
+
+-- the same of an append to several datasets
+abbrev pub SeveralEndsWell : List ℕ → List (List ℕ) → Status → SourceView → SourceView → SinkView → SinkView → DiskView → DiskView → Type 0
+SeveralEndsWell name names status s t k l v w =
+    HasSeveralInput name names s v → (Rose s.faults t.faults → ⊥) → (Rose k.faults l.faults → ⊥) → (Rose v.faults w.faults → ⊥) → (status ≡ statuses.Done) ⊎ ((status ≡ statuses.Limit) ⊎ (status ≡ statuses.Memory))
+
+-- ---- By how many names there are
+
+-- the name, where it is the only one
+abbrev pub only_of : List (List ℕ) → Option (List ℕ)
+only_of (name ∷ []) = Some name
+only_of names = None
+
+-- what an append leaves: to the dataset of one name, or to those of several
+abbrev pub AppendTells : List ℕ → List (List ℕ) → (limit : ℕ) → SourceView → SourceView → DiskView → DiskView → Status → SinkView → SinkView → Type 0
+AppendTells file (name ∷ []) limit s t v w status k l = TellsEnd file name limit s t v w status k l
+AppendTells file names limit s t v w status k l = SeveralTells file names limit s t v w status k l
+
+-- the same, told of one name by the state of the session, too
+abbrev pub AppendTellsInside : List ℕ → List (List ℕ) → (limit budget : ℕ) → Bool → SourceView → SourceView → DiskView → DiskView → Status → SinkView → SinkView → Type 0
+AppendTellsInside file (name ∷ []) limit budget keeps s t v w status k l = AppendEnds file name limit budget keeps s t v w status k l
+AppendTellsInside file names limit budget keeps s t v w status k l = SeveralTells file names limit s t v w status k l
+
+-- that it ends well
+abbrev pub AppendTellsWhole : List ℕ → List (List ℕ) → Status → SourceView → SourceView → SinkView → SinkView → DiskView → DiskView → Type 0
+AppendTellsWhole file (name ∷ []) status s t k l v w = AppendEndsWell file name status s t k l v w
+AppendTellsWhole file names status s t k l v w = SeveralEndsWell file names status s t k l v w

@@ -9,8 +9,6 @@ use Rattle.h5w_text.specs.declared.error.ErrorLine.TheVariants as errors
 use Rattle.h5w_text.specs.declared.status.Status.{Status}
 use Rattle.h5w_text.specs.declared.status.Status.TheVariants as statuses
 use Rattle.h5w_files.specs.Ends.{EndsWell}
-use Rattle.h5w_appending.specs.Appends.{AppendEnds}
-use Rattle.h5w_appending.specs.Tells.{TellsEnd}
 use Rattle.h5w_appending.specs.Creates.{CreateEnds, end_given}
 use Rattle.h5w_several_creation_laws.specs.SeveralFiles.{end_of}
 use Rattle.h5w_commands.specs.News.{files_of}
@@ -28,7 +26,7 @@ use Rattle.h5w_running.specs.declared.ended.Ended.TheVariants as ends
 use Rattle.h5w_commands.specs.Plays.{Completes, Plays}
 use Rattle.h5w_commands.specs.Makes.{MakeEnds, MakeEndsWell}
 use Rattle.h5w_commands.specs.Stops.{StopEnds, StopEndsWell, StopTells}
-use Rattle.h5w_commands.specs.Appending.{AppendEndsWell}
+use Rattle.h5w_commands.specs.Appending.{AppendTells, AppendTellsInside, AppendTellsWhole}
 
 -- the job waits for nobody
 abbrev pub IsPlain : Job → Type 0
@@ -44,10 +42,10 @@ Does (Check file names) status s t k l v w = (t ≡ s) × CheckEnds file names v
 Does (Poll file name times attempts values) status s t k l v w = (t ≡ s) × PollEnds file name times attempts values v w status k l
 Does (Clear file upgrade) status s t k l v w = (t ≡ s) × ClearEnds file upgrade v w status k l
 Does (Make count seed) status s t k l v w = (t ≡ s) × (w ≡ v) × MakeEnds count seed status k l
-Does (Append file name limit budget keeps) status s t k l v w = TellsEnd file name limit s t v w status k l
+Does (Append file names limit budget keeps) status s t k l v w = AppendTells file names limit s t v w status k l
 Does (Live options readers polls attempts mirrors) status s t k l v w = ⊥
 Does (Stop options) status s t k l v w = StopTells options status s t k l × (w ≡ v)
-Does (Repack file to name limit ranges) status s t k l v w = (t ≡ s) × RepackEnds file to name limit ranges v w status k l
+Does (Repack file to names limit ranges) status s t k l v w = (t ≡ s) × RepackEnds file to names limit ranges v w status k l
 
 -- The same, with what an append and a script of a writer alone leave told by the state of their session, too.
 abbrev pub DoesInside : Job → Status → SourceView → SourceView → SinkView → SinkView → DiskView → DiskView → Type 0
@@ -57,10 +55,10 @@ DoesInside (Check file names) status s t k l v w = (t ≡ s) × CheckEnds file n
 DoesInside (Poll file name times attempts values) status s t k l v w = (t ≡ s) × PollEnds file name times attempts values v w status k l
 DoesInside (Clear file upgrade) status s t k l v w = (t ≡ s) × ClearEnds file upgrade v w status k l
 DoesInside (Make count seed) status s t k l v w = (t ≡ s) × (w ≡ v) × MakeEnds count seed status k l
-DoesInside (Append file name limit budget keeps) status s t k l v w = AppendEnds file name limit budget keeps s t v w status k l
+DoesInside (Append file names limit budget keeps) status s t k l v w = AppendTellsInside file names limit budget keeps s t v w status k l
 DoesInside (Live options readers polls attempts mirrors) status s t k l v w = ⊥
 DoesInside (Stop options) status s t k l v w = StopEnds options status s t k l × (w ≡ v)
-DoesInside (Repack file to name limit ranges) status s t k l v w = (t ≡ s) × RepackEnds file to name limit ranges v w status k l
+DoesInside (Repack file to names limit ranges) status s t k l v w = (t ≡ s) × RepackEnds file to names limit ranges v w status k l
 
 -- the words are outside the command set: nothing is read, no file is looked at, and that is said
 pub record Refuses (status : Status) (s t : SourceView) (k l : SinkView) (v w : DiskView) : Type 0 where
@@ -93,10 +91,10 @@ DoesWhole (Check file names) status s t k l v w = EndsWell (check_of names) file
 DoesWhole (Poll file name times attempts values) status s t k l v w = EndsWell (poll_of (reader_rules name attempts) values) file v w status k l
 DoesWhole (Clear file upgrade) status s t k l v w = EndsWell (clears_of upgrade) file v w status k l
 DoesWhole (Make count seed) status s t k l v w = MakeEndsWell status k l
-DoesWhole (Append file name limit budget keeps) status s t k l v w = AppendEndsWell file name status s t k l v w
+DoesWhole (Append file names limit budget keeps) status s t k l v w = AppendTellsWhole file names status s t k l v w
 DoesWhole (Live options readers polls attempts mirrors) status s t k l v w = ⊥
 DoesWhole (Stop options) status s t k l v w = StopEndsWell options status s t k l
-DoesWhole (Repack file to name limit ranges) status s t k l v w = RepackEndsWell file to name v w status k l
+DoesWhole (Repack file to names limit ranges) status s t k l v w = RepackEndsWell file to names v w status k l
 
 -- the same of the job that words of the command set have
 abbrev pub RanWhole : Option Job → Ended → SourceView → SourceView → SinkView → SinkView → DiskView → DiskView → Type 0

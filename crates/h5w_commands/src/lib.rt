@@ -3,6 +3,7 @@
 #![tactic(auto)]
 
 mod answer;
+mod append;
 mod disk;
 mod ending;
 mod make;

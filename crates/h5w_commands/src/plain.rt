@@ -3,11 +3,11 @@ ghost use Rattle.h5w_batches.specs.Inputs.{SameSource};
 ghost use Rattle.h5w_commands.specs.Runs.{Does, DoesInside, DoesWhole, IsPlain};
 ghost use Rattle.h5w_words.specs.Limits.{IsWithinLimits};
 
+use crate::append::append;
 use crate::make::make;
 use crate::new::new;
 use crate::play::play;
 use crate::stop::stop;
-use h5w_appending::append;
 use h5w_files::{check, clear, poll};
 use h5w_image::Disk;
 use h5w_repacking::repack;
@@ -59,14 +59,14 @@ pub fn plain<S: Source, K: Sink, D: Disk>(
         Job::Make { count, seed } => make(alloc, *count, *seed, sink),
         Job::Append {
             file,
-            name,
+            names,
             limit,
             budget,
             keeps,
         } => append(
             alloc,
             file.as_str(),
-            name.as_slice(),
+            names,
             *limit,
             *budget,
             *keeps,
@@ -78,14 +78,14 @@ pub fn plain<S: Source, K: Sink, D: Disk>(
         Job::Repack {
             file,
             to,
-            name,
+            names,
             limit,
             ranges,
         } => repack(
             alloc,
             file.as_str(),
             to.as_str(),
-            name.as_slice(),
+            names,
             *limit,
             *ranges,
             sink,

@@ -1,4 +1,3 @@
 pub mod WordLemmas
 pub mod FillLemmas
 pub mod NameLemmas
-pub mod NewLemmas

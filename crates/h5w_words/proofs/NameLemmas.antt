@@ -11,7 +11,7 @@ use Rattle.std.proofs.Math.Seq.{take-suc}
 use Rattle.std.proofs.lemmas.List.Folds.{list_all-append, list_any-append, list_any_at}
 use Rattle.h5w_input.specs.Scripts.{is_word}
 use Rattle.h5w_words.specs.Arguments.{link_names_in}
-use Rattle.h5w_words.specs.Names.{are_distinct, are_link_names, is_link_name, is_name, is_name_byte, may_follow, parts_of}
+use Rattle.h5w_words.specs.Names.{are_distinct, are_link_names, is_link_byte, is_link_name, is_name, is_name_byte, may_follow, parts_of}
 
 -- names of links that are taken so far
 pub record AreTaken (names : List (List ℕ)) : Type 0 where
@@ -176,11 +176,14 @@ name_bounds x h =
     let both = and_parts (nat_le 1 (length x)) (nat_le (length x) 64) sizes.0 in
     (leb-true 1 (length x) both.0, leb-true (length x) 64 both.1)
 
--- the first of some names
-pub first_bounds : (names : List (List ℕ)) → 1 ≤ length names → list_all is_name names ≡ true → (1 ≤ length (get_or names 0 [])) × (length (get_or names 0 []) ≤ 64)
-first_bounds [] some all = absurd (omega (arith, some))
-first_bounds (x ∷ xs) some all = name_bounds x ((and_parts (is_name x) (list_all is_name xs) all).0)
+-- how long a name of a link is
+pub link_bounds : (x : List ℕ) → is_link_name x ≡ true → (1 ≤ length x) × (length x ≤ 255)
+link_bounds x h =
+    let sizes = and_parts (nat_le 1 (length x) && nat_le (length x) 255) (list_all is_link_byte x) h in
+    let both = and_parts (nat_le 1 (length x)) (nat_le (length x) 255) sizes.0 in
+    (leb-true 1 (length x) both.0, leb-true (length x) 255 both.1)
 
+-- how many names of links there are
 pub some_names : (names : List (List ℕ)) → are_link_names names ≡ true → (1 ≤ length names) × (length names ≤ 8)
 some_names names h =
     let counts = and_parts (nat_le 1 (length names) && nat_le (length names) 8) (list_all is_link_name names && are_distinct names) h in

@@ -3,7 +3,7 @@ use Rattle.std.proofs.Common.{◌≡◌, ◌≢◌, ◌⊎◌, ◌||◌, ◌∙�
 use Rattle.std.specs.Prelude.{Box, IfErr, IfOk, IsErrAnd, Result, Ok, Err, map}
 use Rattle.std.specs.List.{All}
 use Rattle.std.specs.Box.{box_value}
-use Rattle.clap.specs.Words.{AddsArg, AddsInTurn, AddsSubcommand, App, HasKind, HasMatchesOf, Kinds, Row, Rule, Text, fault_of, first_of, first_value, app_of, is_simple, is_simple_and_free, kind_of, rows_of, rule_of, subcommand_name_of, subcommand_of, subcommand_rows, subcommand_rows_of, with_subcommand}
+use Rattle.clap.specs.Words.{AddsArg, AddsInTurn, App, HasKind, HasMatchesOf, Kinds, Row, Rule, Text, fault_of, first_of, first_value, app_of, is_simple, is_simple_and_free, kind_of, rows_of, rule_of, subcommand_name_of, subcommand_of, subcommand_rows, subcommand_rows_of}
 use Rattle.clap.specs.declared.builder.arg.Arg.{Arg}
 use Rattle.clap.specs.declared.builder.command.Command.{Command}
 use Rattle.clap.specs.declared.error.Error.{Error}

@@ -1,9 +1,9 @@
--- The command that appends to a file: append FILE [--name N] [--limit B] [--budget G] [--no-reuse]
+-- The command that appends to a file: append FILE [--name N,..] [--limit B] [--budget G] [--no-reuse]
 use Rattle.std.specs.Prelude.{false, List, Option, option_map, option_and_then, codes}
 use Rattle.clap.specs.Words.{App, Row, first_of, new_app, with_rule}
 use Rattle.h5w_words.specs.Arguments.{flag_rule, is_given, option_rule, word_rule}
 use Rattle.h5w_words.specs.Creation.{budget_of, limit_of}
-use Rattle.h5w_words.specs.Files.{file_of, link_name_of}
+use Rattle.h5w_words.specs.Files.{file_of, names_within}
 use Rattle.h5w_words.specs.declared.job.Job.{Job}
 use Rattle.h5w_words.specs.declared.job.Job.TheVariants.{Append}
 
@@ -15,5 +15,5 @@ append_app =
 -- what is retired stays so where --no-reuse is given
 abbrev pub append_of : List Row → Option Job
 append_of rows =
-    option_and_then (λ file. option_and_then (λ name. option_and_then (λ limit. option_map (λ budget.
-    Append file name limit budget (is_given (first_of (codes "no-reuse") rows))) (budget_of rows)) (limit_of rows)) (link_name_of rows)) (file_of rows)
+    option_and_then (λ file. option_and_then (λ limit. option_and_then (λ names. option_map (λ budget.
+    Append file names limit budget (is_given (first_of (codes "no-reuse") rows))) (budget_of rows)) (names_within rows limit)) (limit_of rows)) (file_of rows)

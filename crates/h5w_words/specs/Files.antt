@@ -1,5 +1,5 @@
 -- The commands on files: new FILE OPTS, OPTS being what a file is created by, check FILE [--name N,..], poll FILE [--name N] [--times T] [--attempts A] [--values], clear FILE [--upgrade]
-use Rattle.std.specs.Prelude.{ℕ, ◌*◌, false, List, [], length, get_or, nat_lt, if◌then◌else◌, Option, Some, None, option_map, option_and_then, codes}
+use Rattle.std.specs.Prelude.{ℕ, ◌*◌, Bool, false, List, [], length, get_or, nat_lt, if◌then◌else◌, Option, Some, None, option_map, option_and_then, codes}
 use Rattle.std.specs.List.{list_all}
 use Rattle.clap.specs.Words.{App, Row, Text, first_of, new_app, with_rule}
 use Rattle.h5w_words.specs.Arguments.{count_or, flag_rule, is_given, link_name_or, link_names_or, option_rule, word_rule}
@@ -36,13 +36,21 @@ link_name_of rows = link_name_or (codes "data") (first_of (codes "name") rows)
 abbrev pub link_names_of : List Row → Option (List Text)
 link_names_of rows = link_names_or (codes "data") (first_of (codes "name") rows)
 
+-- a file of so many bytes lacks room for its names: each takes 1,024
+abbrev pub lacks_room : ℕ → List Text → Bool
+lacks_room limit names = nat_lt limit (1024 * length names)
+
+-- the names of links, for which a file of so many bytes has room
+abbrev pub names_within : List Row → ℕ → Option (List Text)
+names_within rows limit = option_and_then (λ names. if lacks_room limit names then None else Some names) (link_names_of rows)
+
 -- 1 to 1,000,000; where none are given, 1
 abbrev pub times_of : List Row → Option ℕ
 times_of rows = count_or 1 1 1000000 (first_of (codes "times") rows)
 
 -- a file of these names, whose limit is 1,024 bytes a name at least
 abbrev pub new_of : Text → List Text → Options → Option Job
-new_of file names o = if nat_lt o.limit (1024 * length names) then None else Some (New file names o)
+new_of file names o = if lacks_room o.limit names then None else Some (New file names o)
 
 -- the same by what else is given
 abbrev pub new_named : List Row → Text → List Text → Option Job

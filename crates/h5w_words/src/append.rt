@@ -7,7 +7,7 @@ ghost use Rattle.h5w_words.specs.Limits.{IsWithinLimits};
 
 use crate::arguments::Argument::{Flag, Optional, Word};
 use crate::arguments::with_arguments;
-use crate::files::{file_given, link_name_given};
+use crate::files::{file_given, names_within};
 use crate::job::{Job, WordsError};
 use crate::values::{budget_given, is_given, limit_given};
 use clap::{ArgMatches, Command};
@@ -42,7 +42,7 @@ pub fn append_job(alloc: Global, options: &ArgMatches<'_>) -> Result<Job, WordsE
     let budget = budget_given(options).ok_or(WordsError::Usage)?;
     Ok(Job::Append {
         file: file_given(alloc, options)?,
-        name: link_name_given(alloc, options)?,
+        names: names_within(alloc, options, limit)?,
         limit,
         budget,
         keeps: is_given(options, "no-reuse"),

@@ -1,8 +1,8 @@
 //! The commands on files.
-ghost use Rattle.std.specs.Prelude.{◌≡◌, ◌≤◌, ◌⊎◌, false, true, [], None, Some, IfErr, IfOk, get_or, length};
+ghost use Rattle.std.specs.Prelude.{◌≡◌, ◌*◌, ◌≤◌, ◌⊎◌, false, true, [], None, Some, IfErr, IfOk, get_or, length};
 ghost use Rattle.clap.specs.Words.{app_of, found_of, rows_of};
 ghost use Rattle.h5w_words.specs.Arguments.{has_globals};
-ghost use Rattle.h5w_words.specs.Files.{check_app, check_of, clear_app, clear_of, creating_app, creating_of, file_of, link_name_of, link_names_of, new_named, poll_app, poll_numbers_of, poll_of};
+ghost use Rattle.h5w_words.specs.Files.{check_app, check_of, clear_app, clear_of, creating_app, creating_of, file_of, lacks_room, link_name_of, link_names_of, names_within, new_named, poll_app, poll_numbers_of, poll_of};
 ghost use Rattle.h5w_words.specs.Limits.{IsWithinLimits};
 ghost use Rattle.h5w_words.specs.Names.{are_link_names};
 
@@ -104,6 +104,33 @@ fn link_names_given(alloc: Global, options: &ArgMatches<'_>) -> Result<Names, Wo
     }
 }
 
+/// Whether a file of so many bytes lacks room for its names.
+fn lacks_room(limit: u64, names: &Names) -> bool
+    requires { length names.now ≤ 8 }
+    ensures { result ≡ lacks_room limit names.now }
+{
+    limit < EACH * names.len() as u64
+}
+
+/// The names of the root group's links to the datasets of a file of at most `limit` bytes; `Usage` where they are not
+/// 1 to 8 names of links, or one stands twice, or the limit is below 1,024 bytes a name.
+pub fn names_within(
+    alloc: Global,
+    options: &ArgMatches<'_>,
+    limit: u64,
+) -> Result<Names, WordsError>
+    ensures ok { IfOk result (λ names. names_within (rows_of (found_of options.now)) limit ≡ Some names) }
+    ensures usage { IfErr result (λ e. (e ≡ WordsError.OutOfMemory) ⊎ (names_within (rows_of (found_of options.now)) limit ≡ None)) }
+    ensures sound { IfOk result (λ names. are_link_names names ≡ true) }
+    ensures room { IfOk result (λ names. 1024 * length names ≤ limit) }
+{
+    let names = link_names_given(alloc, options)?;
+    if lacks_room(limit, &names) {
+        return Err(WordsError::Usage);
+    }
+    Ok(names)
+}
+
 /// The first of these names.
 fn first_of(names: &Names) -> &[u8]
     requires { 1 ≤ length names.now }
@@ -133,7 +160,7 @@ fn creating_named(
         return Err(WordsError::Usage);
     }
     let given = options_named(alloc, options, first_of(&names))?;
-    if given.limit < EACH * names.len() as u64 {
+    if lacks_room(given.limit, &names) {
         return Err(WordsError::Usage);
     }
     Ok(Job::New {

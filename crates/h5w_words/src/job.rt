@@ -59,13 +59,13 @@ pub enum Job {
         /// What the generator begins with.
         seed: u64,
     },
-    /// Appends the numbers of the input to a dataset.
+    /// Appends the numbers of the input to datasets.
     Append {
         /// The name of the file.
         file: FileName,
-        /// The name of the root group's link to the dataset, of 1 to 255 bytes.
-        name: Bytes,
-        /// How many bytes the file may have, 1,024 to 2^40.
+        /// The names of the root group's links to the datasets, 1 to 8 of 1 to 255 bytes each; none stands twice.
+        names: Names,
+        /// How many bytes the file may have, 1,024 bytes a name to 2^40.
         limit: u64,
         /// How many bytes of chunks and headers may wait unwritten behind a line, 1,024 to 2^30.
         budget: u64,
@@ -90,15 +90,15 @@ pub enum Job {
         /// By what the file is created. The name has letters, digits and underscores alone.
         options: Options,
     },
-    /// Writes a dataset of a file anew into another one.
+    /// Writes datasets of a file anew into another one.
     Repack {
         /// The name of the file.
         file: FileName,
         /// The name of the new file.
         to: FileName,
-        /// The name of the root group's link to the dataset, of 1 to 255 bytes.
-        name: Bytes,
-        /// How many bytes the new file may have, 1,024 to 2^40.
+        /// The names of the root group's links to the datasets, 1 to 8 of 1 to 255 bytes each; none stands twice.
+        names: Names,
+        /// How many bytes the new file may have, 1,024 bytes a name to 2^40.
         limit: u64,
         /// Whether the new file's ranges are printed.
         ranges: bool,

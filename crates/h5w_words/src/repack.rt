@@ -1,4 +1,4 @@
-//! The command that writes a dataset of a file anew into another one.
+//! The command that writes datasets of a file anew into another one.
 ghost use Rattle.std.specs.Prelude.{◌≡◌, ◌⊎◌, false, None, Some, IfErr, IfOk};
 ghost use Rattle.clap.specs.Words.{app_of, found_of, rows_of};
 ghost use Rattle.h5w_words.specs.Arguments.{has_globals};
@@ -8,7 +8,7 @@ ghost use Rattle.h5w_words.specs.Repacks.{repack_app, repack_of, to_of};
 use crate::arguments::Argument::{Flag, Optional, Word};
 use crate::arguments::with_arguments;
 use crate::file::FileName;
-use crate::files::{file_given, link_name_given};
+use crate::files::{file_given, names_within};
 use crate::job::{Job, WordsError};
 use crate::values::{is_given, limit_given, text};
 use clap::{ArgMatches, Command};
@@ -54,7 +54,7 @@ pub fn repack_job(alloc: Global, options: &ArgMatches<'_>) -> Result<Job, WordsE
     Ok(Job::Repack {
         file: file_given(alloc, options)?,
         to: to_given(alloc, options)?,
-        name: link_name_given(alloc, options)?,
+        names: names_within(alloc, options, limit)?,
         limit,
         ranges: is_given(options, "ranges"),
     })

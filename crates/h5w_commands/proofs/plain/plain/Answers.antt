@@ -1,6 +1,8 @@
-use Rattle.std.proofs.Common.{rules}
+use Rattle.std.proofs.Common.{rules, subst}
+use Rattle.h5w_words.specs.Limits.{IsWithinLimits}
 use Rattle.h5w_commands.proofs.CompleteLemmas.{does_whole}
 use Rattle.h5w_commands.proofs.InsideLemmas.{does_told}
+use Rattle.h5w_commands.proofs.NameLemmas.{may_pack}
 use Rattle.h5w_commands.proofs.plain.plain.Goals as goal
 
 pub returns-in-Play-clause-inside : goal.returns-in-Play-clause-inside
@@ -22,7 +24,7 @@ pub returns-in-Make-clause-inside : goal.returns-in-Make-clause-inside
 returns-in-Make-clause-inside g c = search rules
 
 pub returns-in-Append-clause-inside : goal.returns-in-Append-clause-inside
-returns-in-Append-clause-inside g c = let ends = c.append.ensures.appends in search rules
+returns-in-Append-clause-inside g c = let ends = c.append.ensures.inside in search rules
 
 pub returns-in-Stop-clause-inside : goal.returns-in-Stop-clause-inside
 returns-in-Stop-clause-inside g c = search rules
@@ -83,3 +85,6 @@ returns-in-Repack-clause-completes g c = does_whole _ _ _ _ _ _ _ _ (returns-in-
 
 pub returns-in-Repack-clause-does : goal.returns-in-Repack-clause-does
 returns-in-Repack-clause-does g c = does_told _ _ _ _ _ _ _ _ (returns-in-Repack-clause-inside g c)
+
+pub repack-requires-clause-names : goal.repack-requires-clause-names
+repack-requires-clause-names g c = may_pack c.in-Repack.names (subst IsWithinLimits c.in-Repack.is c.requires.limits).0

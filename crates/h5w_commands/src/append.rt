@@ -1,0 +1,51 @@
+//! The command that appends to a file, by how many datasets it names.
+ghost use Rattle.std.specs.Prelude.{◌≡◌, ◌*◌, ◌≤◌, ◌^◌, true, length, option_map};
+ghost use Rattle.h5w_batches.specs.Inputs.{SameSource};
+ghost use Rattle.h5w_words.specs.Names.{are_link_names};
+ghost use Rattle.h5w_commands.specs.Appending.{AppendTells, AppendTellsInside, AppendTellsWhole, only_of};
+
+use h5w_image::Disk;
+use h5w_names::Names;
+use h5w_text::{Sink, Source, Status};
+use std::alloc::Global;
+
+/// The name, where it is the only one.
+fn only(names: &Names) -> Option<&[u8]>
+    ensures { option_map (λ name. name.now) result ≡ only_of names.now }
+{
+    if names.len() == 1 { names.get(0) } else { None }
+}
+
+/// Appends the numbers of the source to datasets of the file of the name `file`, those that the root group's links of
+/// these names lead to: to the one dataset, or to the one that a line `use` named last, at first the first. What becomes
+/// of its lines, and of the rest, is as [`h5w_appending::append`] says of one name, and [`h5w_several_appending::append`]
+/// of more.
+pub fn append<S: Source, K: Sink, D: Disk>(
+    alloc: Global,
+    file: &str,
+    names: &Names,
+    limit: u64,
+    budget: u64,
+    keeps: bool,
+    source: &mut S,
+    sink: &mut K,
+    disk: &mut D,
+) -> Status
+    requires names { are_link_names names.now ≡ true }
+    requires low { 1024 * length names.now ≤ limit }
+    requires high { limit ≤ 2 ^ 40 }
+    requires budget { (1024 ≤ budget) × (budget ≤ 2 ^ 30) }
+    ensures tells { AppendTells file.now names.now limit (S.view source.old) (S.view source.new) (D.view disk.old) (D.view disk.new) result (K.view sink.old) (K.view sink.new) }
+    ensures inside { AppendTellsInside file.now names.now limit budget keeps (S.view source.old) (S.view source.new) (D.view disk.old) (D.view disk.new) result (K.view sink.old) (K.view sink.new) }
+    ensures completes { AppendTellsWhole file.now names.now result (S.view source.old) (S.view source.new) (K.view sink.old) (K.view sink.new) (D.view disk.old) (D.view disk.new) }
+    ensures source { SameSource (S.view source.old) (S.view source.new) }
+{
+    match only(names) {
+        Some(name) => h5w_appending::append(
+            alloc, file, name, limit, budget, keeps, source, sink, disk,
+        ),
+        None => h5w_several_appending::append(
+            alloc, file, names, limit, budget, keeps, source, sink, disk,
+        ),
+    }
+}
