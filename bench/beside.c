@@ -160,7 +160,9 @@ int main(int count, char **words)
         feed(round * batch, batch);
         watch(rows + round * batch, round * batch, prints ? batch : 0);
     }
+    /* Both are gone before this one ends, or the file would still be locked for whoever opens it next. */
     kill(reader.id, SIGKILL);
+    waitpid(reader.id, &status, 0);
     close(writer.input);
     if (waitpid(writer.id, &status, 0) < 0 || status)
         stop("the writer failed");

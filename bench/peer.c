@@ -11,14 +11,11 @@
  *   peer feed FILE                opens it so, appends each line of numbers that comes, a row each, flushes it, and tells the rows: "rows N"
  *   peer poll FILE TIMES PRINTS   opens it for SWMR reading and refreshes it, so many times, and tells the rows and reads the new ones each
  *                                 time: PRINTS is 1 to print them behind the line, and 0 to read them before it
- *   peer replay FILE LIST         writes the pieces that a list names, "length offset" a line, one by one, and nothing else
  */
-#include <fcntl.h>
 #include <hdf5.h>
 #include <stdio.h>
 #include <stdlib.h>
 #include <string.h>
-#include <unistd.h>
 
 static void stop(const char *what)
 {
@@ -167,22 +164,6 @@ static void feed(const char *path)
     checked(H5Fclose(file), "H5Fclose");
 }
 
-static void replay(const char *path, const char *list)
-{
-    static char piece[512];
-    long length;
-    long long offset;
-    int file = open(path, O_RDWR);
-    FILE *pieces = fopen(list, "r");
-    if (file < 0 || !pieces)
-        stop("the list");
-    while (fscanf(pieces, "%ld %lld", &length, &offset) == 2)
-        if (length > 512 || pwrite(file, piece, length, offset) != length)
-            stop("pwrite");
-    fclose(pieces);
-    close(file);
-}
-
 static void open_often(const char *path, long times)
 {
     hid_t file;
@@ -277,8 +258,6 @@ int main(int count, char **words)
         feed(words[2]);
     else if (strcmp(what, "poll") == 0)
         poll_often(words[2], first, second != 0);
-    else if (strcmp(what, "replay") == 0 && count > 3)
-        replay(words[2], words[3]);
     else
         stop("the command line");
     return 0;

@@ -46,7 +46,7 @@ rows = [
     ("1,000 flushes of 131 chunks of a row, instructions a chunk", many / 131000, None),
     ("  times those of half as many", many / few, 2.2),
     ("65,536 rows in one chunk, instructions a value", wide / 65536, 60),
-    ("a row into a stored chunk, from its append to its last piece, instructions", (more - one) / 100, 2500),
+    ("a row into a stored chunk, from its append to its last piece, instructions", (more - one) / 100, 2300),
     ("20,000 rows one by one past a budget of 65,536 bytes, in chunks of 2, instructions a row", high / 20000, None),
     ("  times those of a budget of 1,024", high / low, 1.2),
 ]
