@@ -6,7 +6,8 @@
                         lemma that nothing names
 
 A lemma is named by another lemma of its file, by a `use` line of another file, or by `using` of a function. Those of
-files of examples are theorems by themselves. The last line is 'N passed, M failed'.
+files of examples are theorems by themselves. An answer to a goal of a function is no lemma: functions of one shape
+have answers of one shape. The last line is 'N passed, M failed'.
 """
 import collections
 import glob
@@ -20,7 +21,7 @@ TOP = os.path.dirname(os.path.dirname(os.path.realpath(__file__)))
 FUNCTIONS, LINES = 100, 800
 
 # The most groups of equal definitions, and of equal lemmas, and the most lemmas that nothing names. These only fall.
-DEFINITIONS, LEMMAS, UNNAMED = 16, 177, 79
+DEFINITIONS, LEMMAS, UNNAMED = 16, 136, 79
 
 # Shorter texts than this are equal by chance.
 SHORT = 60
@@ -72,6 +73,8 @@ def equal(folder):
     groups = collections.defaultdict(list)
     for crate in crates():
         for path in files(crate, folder, "antt"):
+            if os.path.basename(path).removesuffix(".antt") in ANSWERS:
+                continue
             for start, name, lines in blocks(path):
                 text = re.sub(r"(?<![\w.])" + re.escape(name) + r"(?![\w])", "@", "\n".join(lines))
                 text = re.sub(r"\s+", " ", re.sub(r"\bpub\b", "", text))
