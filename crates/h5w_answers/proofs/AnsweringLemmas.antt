@@ -1,13 +1,14 @@
 -- A call over looks at an image that stays as it is.
 use Rattle.std.proofs.Common.{◌≡◌, ◌≢◌, ◌≤◌, ℕ, List, Option, Some, None, refl, sym, ap, ◌∙◌, subst, inl, inr}
-use Rattle.std.specs.Prelude.{IfSome, IsSome, option_map}
+use Rattle.std.specs.Prelude.{IsSome, option_map}
 use Rattle.h5w_model.specs.Numbers.{range}
 use Rattle.h5w_model.specs.Programs.{Prog, ret, whole, counted, stored, eval, next_look, fed}
 use Rattle.h5w_model.specs.Unfinished.{Unfinished, Reader, rows_left, values_left, fed_left, next_look_of, wanted, with_left}
 use Rattle.h5w_image.specs.View.{GivesRange, ImageView, Looked}
 use Rattle.h5w_image.proofs.ViewLemmas.{looked_twice}
+use Rattle.h5w_laws.proofs.MostLooks.{length_in}
 use Rattle.h5w_looks.specs.Still.{IsStill}
-use Rattle.h5w_looks.proofs.ReadLemmas.{still_on}
+use Rattle.h5w_looks.proofs.ReadLemmas.{still_on, given_there}
 use Rattle.h5w_reader.specs.Readers.{StepTells}
 use Rattle.h5w_reader.specs.declared.step.Step.{Step}
 use Rattle.h5w_reader.specs.declared.step.Step.TheVariants as steps
@@ -16,10 +17,6 @@ use Rattle.h5w_answers.specs.Answering.{AnswersCall, IsForRows, IsForValues, eva
 abbrev place_in : Option (ℕ × ℕ) → ℕ
 place_in None = 0
 place_in (Some look) = look.0
-
-abbrev pub length_in : Option (ℕ × ℕ) → ℕ
-length_in None = 0
-length_in (Some look) = look.1
 
 eval_fed : {A : Type 0} (img : List ℕ) (p : Prog A) (at len : ℕ) → next_look p ≡ Some (at, len) → eval img (fed (range img at len) p) ≡ eval img p
 eval_fed img (ret a) at len e = cc
@@ -75,10 +72,6 @@ pub record Asking (v w : ImageView) (first now : Reader) : Type 0 where
   pub rows : IsForRows first.left → IsForRows now.left
   pub values : IsForValues first.left → IsForValues now.left
   pub exact : (img : List ℕ) → IsStill v img → option_map (evaluated img) now.left ≡ option_map (evaluated img) first.left
-
--- the bytes that a look at a still image gave
-given_there : (x : ImageView) (img : List ℕ) (at len : ℕ) (bytes : List ℕ) → IsStill x img → GivesRange x at len bytes → bytes ≡ range img at len
-given_there x img at len bytes still gives = subst (λ (o : Option (List ℕ)). IfSome o (λ b. bytes ≡ range b at len)) still.told gives
 
 pub asking_more : {v w x : ImageView} {first now new : Reader} (at len : ℕ) (bytes : List ℕ) → Asking v w first now → Looked w x → wanted now.left ≡ Some (at, len) → GivesRange x at len bytes
     → StepTells (option_map (fed_left bytes) now.left) now steps.More new → IsSome (wanted new.left) → Asking v x first new

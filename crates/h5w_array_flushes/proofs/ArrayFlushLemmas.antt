@@ -24,6 +24,7 @@ use Rattle.h5w_steps.specs.Moments.{Moment, all_used}
 use Rattle.h5w_steps.specs.Steps.{LiesIn}
 use Rattle.h5w_steps.specs.Counts.{count_at}
 use Rattle.h5w_steps.proofs.MomentLemmas.{in_fixed, in_behind, parts_of}
+use Rattle.h5w_steps.proofs.PartLemmas.{count_joined}
 use Rattle.h5w_array_laws.specs.Parts.{Part, data_of, secondary_of, index_block, header, IsPart, length_of, children, first_parts, second_parts, data_blocks_of, visit_order}
 use Rattle.h5w_array_laws.specs.ArrayStores.{IsArray, IsBlock, map_of, place_at_part, bytes_at_part, block_at_part, header_place, own_range, ranges_of, fixed_of, behind_of, blocks_in_place, chunks_in, slots_in}
 use Rattle.h5w_array_laws.specs.ArrayImages.{HeaderStands, StandsArray, BehindStands, SaysArray, AreInPlace}
@@ -38,9 +39,9 @@ use Rattle.h5w_array_laws.proofs.ArrayPlanLemmas.{plans_array}
 use Rattle.h5w_flush_laws.specs.Spaces.{Taken}
 use Rattle.h5w_flush_laws.specs.Knowledge.{IsAsked, Knows}
 use Rattle.h5w_flush_laws.specs.Parts.{AllUnseen, AreEnded, SaysInPlace, EachSays, IndexFlushed, block_ranges, block_writes, committed}
-use Rattle.h5w_flush_laws.proofs.PartLemmas.{count_append}
-use Rattle.h5w_flush_laws.proofs.FlushLemmas.{end_misses}
-use Rattle.h5w_array_flushes.specs.ArrayFlushes.{array_parts, AreChunks, IsArrayPart, ArrayFlushed}
+use Rattle.h5w_flush_laws.specs.Chunks.{AreChunks}
+use Rattle.h5w_flush_laws.proofs.FlushLemmas.{end_misses, unseen_miss}
+use Rattle.h5w_array_flushes.specs.ArrayFlushes.{array_parts, IsArrayPart, ArrayFlushed}
 
 -- ---- The blocks of an array among its ranges
 
@@ -134,12 +135,6 @@ placed_range bytes v n a placed =
     let long : length (bytes_at_part v k) ≡ length_of k = ap (λ b. length (bytes_of b)) block.1 ∙ (of_some (IsBlock k) (block_at_part v k) block.0 block.1 (a.each k known.1)).len in
     subst (λ j. Among (block_at (place_of v j) (length (bytes_in v.blocks j))) (fixed_of v ++ behind_of bytes v)) known.2
     (subst (λ c. Among (block_at (place_at_part v k) c) (fixed_of v ++ behind_of bytes v)) (sym long) (part_range bytes v k known.1 here))
-
--- ---- Writes that are unseen
-
-pub unseen_miss : (m : Moment) (ws : List Write) (u : Used) → AllUnseen m ws → Among u (all_used m) → u.chunk ≡ false → AllMiss ws u.place u.len
-unseen_miss m [] u h a block = tt
-unseen_miss m (w ∷ ws) u h a block = (h.0.off_blocks u a block, unseen_miss m ws u h.1 a block)
 
 -- ---- The index's part
 
@@ -285,12 +280,12 @@ module _ (img name : List ℕ) (m : Moment) (old : Key → ℕ) (s b c t : Space
 
       counts : (p : ℕ) → count_at p (fixed_of w ++ behind_of (chunk_bytes m.dataset) w) ≤ count_at p ((chunks ++ block_ranges copies) ++ (m.fixed ++ m.behind))
       counts p =
-          let first = count_append p (fixed_of w) (behind_of (chunk_bytes m.dataset) w) in
-          let second = count_append p (chunks ++ block_ranges copies) (m.fixed ++ m.behind) in
-          let third = count_append p chunks (block_ranges copies) in
-          let fourth = count_append p m.fixed m.behind in
-          let fifth = count_append p (fresh ms) (behind_of (chunk_bytes m.dataset) v) in
-          let sixth = count_append p chunks m.behind in
+          let first = count_joined p (fixed_of w) (behind_of (chunk_bytes m.dataset) w) in
+          let second = count_joined p (chunks ++ block_ranges copies) (m.fixed ++ m.behind) in
+          let third = count_joined p chunks (block_ranges copies) in
+          let fourth = count_joined p m.fixed m.behind in
+          let fifth = count_joined p (fresh ms) (behind_of (chunk_bytes m.dataset) v) in
+          let sixth = count_joined p chunks m.behind in
           let now = (planned.behind (chunk_bytes m.dataset)).counts p in
           let then = x.behind.counts p in
           let same : count_at p m.fixed ≡ count_at p (fixed_of w) = ap (count_at p) same_fixed in

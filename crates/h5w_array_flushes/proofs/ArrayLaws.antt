@@ -12,10 +12,11 @@ use Rattle.h5w_array_laws.specs.ArrayPlans.{fresh}
 use Rattle.h5w_flush_laws.specs.Spaces.{Taken}
 use Rattle.h5w_flush_laws.specs.Parts.{block_ranges}
 use Rattle.h5w_flush_laws.specs.Rows.{new_chunks}
+use Rattle.h5w_flush_laws.specs.Chunks.{AreChunks, chunks_for}
 use Rattle.h5w_flush_laws.proofs.SpaceLemmas.{taken_laws}
 use Rattle.h5w_flush_laws.proofs.NewChunkLemmas.{or_none}
 use Rattle.h5w_flush_laws.proofs.RowsLaws.{rows_flush}
-use Rattle.h5w_array_flushes.specs.ArrayFlushes.{AreChunks, array_parts, chunks_for, ArrayIsFlush}
+use Rattle.h5w_array_flushes.specs.ArrayFlushes.{array_parts, ArrayIsFlush}
 use Rattle.h5w_array_flushes.proofs.ArrayFlushLemmas.{array_flushed}
 use Rattle.h5w_array_flushes.proofs.ArrayPlaceLemmas.{array_places}
 

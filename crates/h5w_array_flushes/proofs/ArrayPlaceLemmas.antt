@@ -13,7 +13,7 @@ use Rattle.h5w_space.specs.Space.{Space, IsLive, Apart, extent}
 use Rattle.h5w_space.specs.declared.Extent.{Extent}
 use Rattle.h5w_cache.specs.Blocks.{BlockView}
 use Rattle.h5w_cache.specs.Stores.{Store, place_of, block_of}
-use Rattle.h5w_cache.specs.Plans.{Took, Placed, IsMove, AreMoves, stays, block_in, bytes_in, bytes_of}
+use Rattle.h5w_cache.specs.Plans.{Placed, IsMove, AreMoves, stays, block_in, bytes_in, bytes_of}
 use Rattle.h5w_cache.specs.StoreLaws.{IsPlaced, IsLeft, IsRetired}
 use Rattle.h5w_cache.specs.declared.moves.Move.{Move}
 use Rattle.h5w_array_laws.specs.Parts.{Part, data_of, secondary_of, index_block, header, IsPart, number_of, length_of, stays_in_place, visit_order}
@@ -25,15 +25,11 @@ use Rattle.h5w_array_laws.proofs.KeptLemmas.{is_some_of, of_some, some_or_none}
 use Rattle.h5w_array_laws.proofs.OrderLemmas.{IsCopied, visited_copied}
 use Rattle.h5w_array_laws.proofs.WriteLemmas.{of_retired}
 use Rattle.h5w_flush_laws.specs.Spaces.{extent_of, Taken, IsLeftBy}
-use Rattle.h5w_flush_laws.proofs.SpaceLemmas.{taken_laws, move_laws}
+use Rattle.h5w_flush_laws.proofs.SpaceLemmas.{taken_laws, move_laws, took}
 use Rattle.h5w_array_flushes.specs.ArrayFlushes.{ArrayPlaces}
 use Rattle.h5w_array_flushes.proofs.ArrayFlushLemmas.{In, data_visited, second_visited, own_there, in_flat}
 
 -- ---- Moves
-
-took : (b : Bool) (old len : ℕ) (s t : Space) (new : ℕ) → b ≡ false → Placed b old len s t new → Took s t (extent new len)
-took false old len s t new e p = p
-took true old len s t new e p = absurd cc
 
 stayed : (b : Bool) (old len : ℕ) (s t : Space) (new : ℕ) → b ≡ true → Placed b old len s t new → (new ≡ old) × (t ≡ s)
 stayed true old len s t new e p = p

@@ -23,10 +23,11 @@ use Rattle.h5w_array_laws.proofs.WriteLemmas.{writes_leave, in_place_stands}
 use Rattle.h5w_array_laws.proofs.ArrayPlanLemmas.{plans_array}
 use Rattle.h5w_flush_laws.specs.Knowledge.{HeldMissed, Knows}
 use Rattle.h5w_flush_laws.specs.Parts.{IsFlush, block_writes, pieces_of}
+use Rattle.h5w_flush_laws.specs.Chunks.{AreChunks}
 use Rattle.h5w_flush_laws.proofs.SpaceLemmas.{committed_live}
 use Rattle.h5w_flush_laws.proofs.FlushLemmas.{end_misses, supers_miss}
 use Rattle.h5w_flush_laws.proofs.FlushLaws.{final_image, index_missed_by_header}
-use Rattle.h5w_array_flushes.specs.ArrayFlushes.{AreChunks, IsArrayPart, array_parts, ArrayRestsAgain, ArrayRestsThen}
+use Rattle.h5w_array_flushes.specs.ArrayFlushes.{IsArrayPart, array_parts, ArrayRestsAgain, ArrayRestsThen}
 use Rattle.h5w_array_flushes.proofs.ArrayFlushLemmas.{placed_range, stands_copies, behind_copies, block_in_file, at_after}
 
 module _ (img name : List ℕ) (m : Moment) (old : Key → ℕ) (s b t : Space) (v w : Store) (ms : List Move) (rows : ℕ) (more : List ℤ) (writes : List Write) (chunks : List Used) (copies : List (ℕ × List ℕ))

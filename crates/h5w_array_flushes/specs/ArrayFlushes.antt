@@ -1,5 +1,5 @@
 -- The plan of an array's blocks as the index's part of a flush.
-use Rattle.std.specs.Prelude.{◌≡◌, ℕ, ◌*◌, ◌^◌, ◌<◌, true, List, [], ◌++◌, length, None, ℤ}
+use Rattle.std.specs.Prelude.{◌≡◌, ℕ, ◌*◌, ◌^◌, ◌<◌, List, [], ◌++◌, length, None, ℤ}
 use Rattle.h5w_model.specs.Images.{image}
 use Rattle.h5w_model.specs.Findings.{Used, chunk_bytes}
 use Rattle.h5w_model.specs.Prefixed.{StaysDefined}
@@ -22,7 +22,8 @@ use Rattle.h5w_array_laws.specs.ArrayPlans.{fresh}
 use Rattle.h5w_flush_laws.specs.Spaces.{Taken, LetGo}
 use Rattle.h5w_flush_laws.specs.Knowledge.{HeldMissed, IsAsked, Knows}
 use Rattle.h5w_flush_laws.specs.Parts.{Parts, AllUnseen, AreEnded, IndexFlushed, IsFlush, flushed_to, pieces_of, block_ranges, block_writes}
-use Rattle.h5w_flush_laws.specs.Rows.{ArePlaced, new_chunks}
+use Rattle.h5w_flush_laws.specs.Rows.{ArePlaced}
+use Rattle.h5w_flush_laws.specs.Chunks.{AreChunks, chunks_for}
 
 -- the parts of a flush whose index is an array that is named already: this is its store once all is planned
 abbrev pub array_parts : ℕ → Store → ℕ → List ℤ → List Write → List Used → List (ℕ × List ℕ) → List Write → ℕ → List Write → Parts
@@ -40,10 +41,6 @@ array_parts bytes w rows more writes chunks copies supers last fixed = record {
   fixed = fixed_of w;
   behind = behind_of bytes w;
 }
-
--- all of these are chunks
-abbrev pub AreChunks : List Used → Type 0
-AreChunks us = (u : Used) → Among u us → u.chunk ≡ true
 
 -- What a session shows of its array: its store when the chunks of the new rows have their addresses, and the plan of that.
 pub record IsArrayPart (img : List ℕ) (m : Moment) (v : Store) (s : Space) (ms : List Move) (w : Store) (t : Space) (chunks : List Used) (copies : List (ℕ × List ℕ)) (fixed : List Write) : Type 0 where
@@ -76,10 +73,6 @@ pub record ArePlaces (m : Moment) (b : Space) (ms : List Move) (w : Store) (t : 
 abbrev pub ArrayPlaces : Type 0
 ArrayPlaces = (img : List ℕ) (m : Moment) (b t : Space) (v w : Store) (ms : List Move) (chunks : List Used) (copies : List (ℕ × List ℕ)) (fixed : List Write)
     → AreChunks chunks → IsArrayPart img m v b ms w t chunks copies fixed → ArePlaces m b ms w t
-
--- The new chunks of a flush whose index is an array.
-abbrev pub chunks_for : Moment → (Key → ℕ) → List ChunkPlace → List Used
-chunks_for m old places = new_chunks m.dataset old m.dataset.shape.rows 0 places
 
 -- All of a flush whose index is an array that is named already: from what a session knows, the places of its new chunks, what the writes of the
 -- rows do, and the array's plan.

@@ -8,11 +8,13 @@ use Rattle.h5w_model.specs.Numbers.{undefined}
 use Rattle.h5w_model.specs.Findings.{Used}
 use Rattle.h5w_model.specs.declared.piece.Write.{Write}
 use Rattle.h5w_space.specs.Space.{Space, Apart, extent}
+use Rattle.h5w_space.proofs.Sound.{Apart-sym}
 use Rattle.h5w_cache.specs.Blocks.{BlockView}
 use Rattle.h5w_cache.specs.Stores.{Store, block_of, place_of, is_changed}
 use Rattle.h5w_cache.specs.Plans.{IsPlan, bytes_of}
 use Rattle.h5w_cache.specs.declared.moves.Move.{Move}
-use Rattle.h5w_cache.proofs.MoveLemmas.{Apart-flip, Apart-sides, two_apart}
+use Rattle.h5w_cache.proofs.MoveLemmas.{Apart-sides, two_apart}
+use Rattle.h5w_cache.proofs.LawLemmas.{no_move}
 use Rattle.h5w_visits.specs.Ranges.{Among, AreApart, Disjoint, block_at}
 use Rattle.h5w_visits.proofs.RangeLemmas.{among_split}
 use Rattle.h5w_steps.specs.Counts.{count_at}
@@ -22,7 +24,7 @@ use Rattle.h5w_array_laws.specs.Among.{AreAmong}
 use Rattle.h5w_array_laws.specs.ArrayPlans.{fresh}
 use Rattle.h5w_array_laws.specs.ArrayStores.{IsArray, IsBlock, block_at_part, place_at_part, chunks_in, slots_in, own_range, ranges_of, behind_of}
 use Rattle.h5w_array_laws.proofs.AmongLemmas.{part_itself, part_onward, part_right, part_joined, part_more, each-among}
-use Rattle.h5w_array_laws.proofs.StoreLemmas.{no_move, move_at, new_at, changed_moved}
+use Rattle.h5w_array_laws.proofs.StoreLemmas.{move_at, new_at, changed_moved}
 use Rattle.h5w_array_laws.proofs.KeptLemmas.{is_some_of, of_some}
 use Rattle.h5w_array_laws.proofs.PlanLemmas.{someAnd_of}
 use Rattle.h5w_array_laws.proofs.PlannedLemmas.{for_all, is_clean, is_marked, clean_place}
@@ -136,7 +138,7 @@ module _ (v : Store) (s : Space) (ms : List Move) (cs fs : List Write) (w : Stor
 
       go : (i < j) ⊎ (j ≤ i) → Apart (extent (get_or ms i no_move).new (get_or ms i no_move).len) (extent (get_or ms j no_move).new (get_or ms j no_move).len)
       go (inl lt) =
-          Apart-flip (extent n.new n.len) (extent m.new m.len)
+          Apart-sym (extent n.new n.len) (extent m.new m.len)
           (two_apart v.blocks v.places s ms p.taken.taken i j no_move p.taken.moves lt lj (moves_on m.in_place m.old mi) (moves_on n.in_place n.old mj))
       go (inr le) = two_apart v.blocks v.places s ms p.taken.taken j i no_move p.taken.moves (omega (arith, le, ne)) li (moves_on n.in_place n.old mj) (moves_on m.in_place m.old mi)
 

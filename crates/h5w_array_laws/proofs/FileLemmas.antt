@@ -7,11 +7,12 @@ use Rattle.h5w_model.specs.Images.{image, pieces}
 use Rattle.h5w_model.specs.Programs.{eval}
 use Rattle.h5w_model.specs.Datasets.{Described}
 use Rattle.h5w_model.specs.Tables.{InPlace, needed_keys, table_of}
-use Rattle.h5w_model.specs.Findings.{Used, Finding, chunk_bytes}
+use Rattle.h5w_model.specs.Findings.{Used, chunk_bytes}
 use Rattle.h5w_model.specs.Prefixed.{StaysDefined}
 use Rattle.h5w_model.specs.declared.cell.Key.{Key}
 use Rattle.h5w_model.specs.declared.refusal.ReadError.{ReadError}
 use Rattle.h5w_cache.specs.Stores.{times}
+use Rattle.h5w_laws.proofs.EndLemmas.{same_ranges}
 use Rattle.h5w_visits.specs.Ranges.{Among, AllEndBy, block_at}
 use Rattle.h5w_visits.specs.Indexes.{IsIndex, behind_visit}
 use Rattle.h5w_visits.proofs.RangeLemmas.{ends_nil, ends_cons, ends_later}
@@ -40,12 +41,6 @@ some_end (u ∷ us) =
     let later = some_end us in
     let end : ℕ = max (u.place + u.len) later.0 in
     (end, ends_cons end u us (omega arith) (ends_later later.0 end us (omega arith) later.1))
-
-abbrev pub found_ranges : List Used → Result (List Used) Finding
-found_ranges us = Ok us
-
-pub same_found : (us vs : List Used) → found_ranges us ≡ found_ranges vs → us ≡ vs
-same_found us vs h = cc
 
 abbrev pub found_place : InPlace → Result InPlace ReadError
 found_place p = Ok p
@@ -76,7 +71,7 @@ file_tells v img name m a clean stands r kind address =
     let table : eval img (table_of d (needed_keys d)) ≡ Ok (table_in v d) = table_laws.by_blocks img d (blocks_in_place v) (needed_keys d) says.says ∙ array_table v img d read (few img name m r) kind in
     record {
       of = record { kind = kind; address = address; fixed = i.fixed_are ∙ says.looks };
-      behind = same_found m.behind us (sym given ∙ read.visited end (chunk_bytes d) (ends_later far.0 end us (omega arith) far.1));
+      behind = same_ranges m.behind us (sym given ∙ read.visited end (chunk_bytes d) (ends_later far.0 end us (omega arith) far.1));
       table = same_table m.table (table_in v d) (sym r.table ∙ table);
     }
 

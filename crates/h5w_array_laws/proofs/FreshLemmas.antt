@@ -9,15 +9,18 @@ use Rattle.h5w_model.specs.Findings.{Used}
 use Rattle.h5w_model.specs.declared.piece.Write.{Write}
 use Rattle.h5w_space.specs.Space.{Space, IsLive, Apart, extent, TakesFree, TakesEnd}
 use Rattle.h5w_space.specs.declared.Extent.{Extent}
+use Rattle.h5w_space.proofs.Sound.{Apart-sym}
 use Rattle.h5w_cache.specs.Blocks.{BlockView}
 use Rattle.h5w_cache.specs.Stores.{Store, place_in}
-use Rattle.h5w_cache.specs.Plans.{IsPlan, IsMove, AreMoves, AreRetired, Retires, Placed, Took, stays}
+use Rattle.h5w_cache.specs.Plans.{IsPlan, IsMove, AreMoves, Placed, Took, stays}
 use Rattle.h5w_cache.specs.StoreLaws.{IsLeft, IsPlaced, Standing, range_of}
 use Rattle.h5w_cache.specs.declared.moves.Move.{Move}
-use Rattle.h5w_cache.proofs.MoveLemmas.{Apart-flip, Apart-sides, move_live, moves_live, placed_retired, retired_live, took_of}
+use Rattle.h5w_cache.proofs.MoveLemmas.{Apart-sides, move_live, moves_live, placed_retired, retired_live, took_of}
+use Rattle.h5w_cache.proofs.FinishLemmas.{retired_end}
+use Rattle.h5w_cache.proofs.LawLemmas.{no_move}
 use Rattle.h5w_visits.specs.Ranges.{Among, AllEndBy, AllSome, AreApart, Disjoint, block_at}
 use Rattle.h5w_array_laws.specs.ArrayPlans.{fresh, extent_of}
-use Rattle.h5w_array_laws.proofs.StoreLemmas.{no_move, move_at}
+use Rattle.h5w_array_laws.proofs.StoreLemmas.{move_at}
 
 -- ---- One move
 
@@ -90,7 +93,7 @@ fresh_disjoint blocks places s (m ∷ ms) t h = go (cases_Bool m.in_place) (fres
     apart : Took s h.0 (extent m.new m.len) → (u : Used) → Among u (fresh ms) → AreApart (block_at m.new m.len) u
     apart k u a =
         Apart-sides (extent m.new m.len) (extent_of u) (h.1).some (fresh_some blocks places h.0 ms t h.2 u a)
-        (Apart-flip (extent_of u) (extent m.new m.len) (off_live_from blocks places h.0 ms t h.2 (extent m.new m.len) k.live u a))
+        (Apart-sym (extent_of u) (extent m.new m.len) (off_live_from blocks places h.0 ms t h.2 (extent m.new m.len) k.live u a))
 
     go : (m.in_place ≡ true) ⊎ (m.in_place ≡ false) → Disjoint (fresh ms) → Disjoint (fresh (m ∷ ms))
     go (inl e) later = subst (λ (us : List Used). Disjoint us) (sym (fresh_in_place m ms e)) later
@@ -129,14 +132,6 @@ moves_end blocks places s (m ∷ ms) t h =
     let first = placed_end (stays m.in_place m.old) m.old m.len s h.0 m.new (h.1).step in
     let rest = moves_end blocks places h.0 ms t h.2 in
     omega (arith, first, rest)
-
-pub retire_end : (s : Space) (m : Move) (t : Space) → Retires s m t → t.end ≡ s.end
-retire_end s m t (inl h) = ap (λ (q : Space). q.end) h.1
-retire_end s m t (inr h) = ap (λ (q : Space). q.end) h.1
-
-pub retired_end : (s : Space) (ms : List Move) (t : Space) → AreRetired s ms t → t.end ≡ s.end
-retired_end s [] t h = ap (λ (q : Space). q.end) h
-retired_end s (m ∷ ms) t h = retired_end h.0 ms t h.2 ∙ retire_end s m h.0 h.1
 
 -- ---- A plan
 

@@ -3,13 +3,14 @@ use Rattle.std.proofs.Common.{◌≡◌, ◌≢◌, ◌⊎◌, ℕ, true, false,
 use Rattle.std.specs.Prelude.{◌==◌, if◌then◌else◌}
 use Rattle.std.proofs.lemmas.Bool.Decides.{eqb_tells}
 use Rattle.h5w_model.specs.Numbers.{range, undefined}
-use Rattle.h5w_model.specs.Programs.{Prog, ret, whole, eval, visits, Visit, all_of}
+use Rattle.h5w_model.specs.Programs.{Prog, ret, eval, visits}
 use Rattle.h5w_model.specs.Arrays.{EahdFields, eahd_at, eaib_at, eaib_fields, eahd_len, eaib_len}
 use Rattle.h5w_model.specs.Datasets.{Described, then_also, refused_as}
 use Rattle.h5w_model.specs.Tables.{InPlace, nowhere, in_array, in_place, array_in_place, tree_in_place}
 use Rattle.h5w_model.specs.declared.cell.IndexKind.TheVariants.{Array, Tree}
 use Rattle.h5w_model.specs.declared.refusal.ReadError.{ReadError}
 use Rattle.h5w_model.specs.declared.refusal.ReadError.TheVariants.{Damaged}
+use Rattle.h5w_visits.proofs.IndexVisits.{look_at, block_read}
 use Rattle.h5w_array_laws.proofs.BlockLemmas.{index_head, index_decoded}
 use Rattle.h5w_array_laws.proofs.VisitLemmas.{IsThere, range_there}
 
@@ -20,13 +21,6 @@ unequal a b n = go (eqb_tells a b)
     go : ((a == b) ≡ true) × (a ≡ b) ⊎ ((a == b) ≡ false) × (a ≢ b) → (a == b) ≡ false
     go (inl t) = absurd (n t.1)
     go (inr t) = t.0
-
-abbrev pub look_at : ℕ → ℕ → Visit
-look_at place n = record { place = place; len = n; counts = all_of }
-
--- what the program that goes on with the index block reads
-abbrev pub block_read : ℕ → Prog (Result InPlace ReadError)
-block_read block = whole block eaib_len (λ b. ret (then_also (refused_as (Damaged block) (eaib_at b block)) (λ e. Ok (in_array e))))
 
 abbrev pub header_read : EahdFields → Prog (Result InPlace ReadError)
 header_read a = if a.block == undefined then ret (Ok nowhere) else block_read a.block

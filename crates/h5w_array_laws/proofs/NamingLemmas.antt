@@ -22,14 +22,14 @@ use Rattle.h5w_steps.proofs.MomentLemmas.{few}
 use Rattle.h5w_steps.proofs.StepRepresents.{step_represents}
 use Rattle.h5w_steps.proofs.WriterLaws.{naming_switches}
 use Rattle.h5w_steps.proofs.GoesLemmas.{behind_front, behind_clear, clear_joined, off_joined}
-use Rattle.h5w_steps.proofs.PartLemmas.{disjoint_part}
+use Rattle.h5w_steps.proofs.PartLemmas.{disjoint_part, count_joined}
 use Rattle.h5w_array_laws.specs.Parts.{index_block, header}
 use Rattle.h5w_array_laws.specs.Among.{AreAmong}
 use Rattle.h5w_array_laws.specs.ArrayStores.{IsArray, place_at_part, bytes_at_part, header_place, behind_of, blocks_in_place}
 use Rattle.h5w_array_laws.specs.ArrayImages.{HeaderStands, BehindStands, AreInPlace, IsRead}
 use Rattle.h5w_array_laws.specs.ArrayTables.{table_in}
 use Rattle.h5w_array_laws.specs.ArrayNaming.{IsArrayOf, MayName, naming, InPlaceSteps, MoreApart}
-use Rattle.h5w_array_laws.proofs.AmongLemmas.{count_joined, part_itself, part_onward, part_joined}
+use Rattle.h5w_array_laws.proofs.AmongLemmas.{part_itself, part_onward, part_joined}
 use Rattle.h5w_array_laws.proofs.StandLemmas.{header_length, index_length, index_placed}
 use Rattle.h5w_array_laws.proofs.PlanLemmas.{all_clean, header_after, place_stays, two_apart, says_one, says_two}
 use Rattle.h5w_array_laws.proofs.FixedLemmas.{fixed_after}

@@ -19,11 +19,11 @@ use Rattle.h5w_cache.specs.Plans.{IsPlan, bytes_in, turn_in, turn_of, numbers, s
 use Rattle.h5w_cache.specs.StoreLaws.{AreThere, IsPlaced, Standing, range_of}
 use Rattle.h5w_cache.specs.declared.moves.Move.{Move}
 use Rattle.h5w_cache.proofs.MoveLemmas.{Apart-sides, stayed_of}
-use Rattle.h5w_cache.proofs.LawLemmas.{others_kept, standing_after}
+use Rattle.h5w_cache.proofs.LawLemmas.{others_kept, standing_after, no_move}
 use Rattle.h5w_array_laws.specs.Parts.{Part, data_of, secondary_of, index_block, header, IsPart, number_of, stays_in_place}
 use Rattle.h5w_array_laws.specs.ArrayStores.{IsArray, IsBlock, block_at_part, place_at_part, bytes_at_part, header_place}
 use Rattle.h5w_array_laws.specs.ArrayImages.{HeaderStands, SaysArray, AreInPlace, CopiesStand, InPlaceSays, AllStand}
-use Rattle.h5w_array_laws.proofs.StoreLemmas.{no_move, move_at, new_at, changed_moved, stands_after, listed_before}
+use Rattle.h5w_array_laws.proofs.StoreLemmas.{move_at, new_at, changed_moved, stands_after, listed_before}
 use Rattle.h5w_array_laws.proofs.InPlaceLemmas.{unequal}
 use Rattle.h5w_array_laws.proofs.KeptLemmas.{of_some, is_some_of, some_is}
 use Rattle.h5w_array_laws.proofs.StandLemmas.{header_fits, header_placed, index_placed, header_length, header_stands, says_array}

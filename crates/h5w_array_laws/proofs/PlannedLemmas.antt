@@ -14,10 +14,10 @@ use Rattle.h5w_cache.specs.Plans.{IsPlan, moved, stays}
 use Rattle.h5w_cache.specs.declared.moves.Move.{Move}
 use Rattle.h5w_cache.proofs.MoveLemmas.{stayed_of}
 use Rattle.h5w_cache.proofs.PlannedLemmas.{length-moved, length-respelled}
-use Rattle.h5w_cache.proofs.LawLemmas.{others_kept, each_spelled}
+use Rattle.h5w_cache.proofs.LawLemmas.{others_kept, each_spelled, no_move}
 use Rattle.h5w_array_laws.specs.Parts.{Part, header, IsPart, number_of, children, parent}
 use Rattle.h5w_array_laws.specs.ArrayStores.{HasHead, IsArray, IsBlock, IsHeaded, IsWhole, Names, block_at_part, place_at_part, header_place}
-use Rattle.h5w_array_laws.proofs.StoreLemmas.{no_move, move_at, new_at, kept_before, kept_after, changed_moved, changed_placed}
+use Rattle.h5w_array_laws.proofs.StoreLemmas.{move_at, new_at, kept_before, kept_after, changed_moved, changed_placed}
 use Rattle.h5w_array_laws.proofs.KeptLemmas.{some_or_none, of_some, some_is, is_some_of, none_is, unchanged}
 use Rattle.h5w_array_laws.proofs.PlanLemmas.{place_stays, all_clean}
 use Rattle.h5w_array_laws.proofs.SpelledLemmas.{MayName, IsChild, children_known, spelled_block, spelled_head, spelled_names, spelled_sealed}

@@ -1,5 +1,5 @@
 -- What of a store stands on an image after the first writes of a plan: the blocks that were clean, and those that were written.
-use Rattle.std.proofs.Common.{◌≡◌, ◌⊎◌, ℕ, ◌<◌, false, List, [], ◌∷◌, length, get_or, take, sym, ap, subst, ◌∙◌, inl, inr, arith}
+use Rattle.std.proofs.Common.{◌≡◌, ◌⊎◌, ℕ, ◌<◌, List, [], ◌∷◌, length, get_or, take, sym, ap, subst, ◌∙◌, inl, inr, arith}
 use Rattle.std.proofs.lemmas.List.{get_or-take, length-take}
 use Rattle.std.proofs.lemmas.List.Elements.{All-from_get_or, All-head, All-tail, All-take}
 use Rattle.std.proofs.lemmas.Bool.{cases_eq, cases_Bool}
@@ -18,10 +18,7 @@ use Rattle.h5w_cache.specs.Plans.{IsPlan, block_in, bytes_in, bytes_of, moved, n
 use Rattle.h5w_cache.specs.StoreLaws.{AreThere, IsPlaced, Standing, range_of}
 use Rattle.h5w_cache.proofs.PlannedLemmas.{kept_inside, listed, moved-one, respelled-kept, same_times, stays_true, times-other}
 use Rattle.h5w_cache.proofs.MoveLemmas.{Apart-sides, IsMoveAt, at_move, found_move, stayed_of}
-use Rattle.h5w_cache.proofs.LawLemmas.{others_kept, standing_after}
-
-abbrev pub no_move : Move
-no_move = record { number = 0; old = 0; new = 0; len = 0; in_place = false }
+use Rattle.h5w_cache.proofs.LawLemmas.{others_kept, standing_after, no_move}
 
 -- the writes of blocks one after another: each block stands then, and each that stood and is apart from the others
 pub shown : (P : ℕ → ℕ) (blocks : List (Option BlockView)) (n : ℕ) (ms : List Move) (img : List ℕ) → All (λ (m : Move). m.new ≡ P m.number) ms

@@ -19,14 +19,14 @@ use Rattle.h5w_cache.specs.Plans.{IsPlan, bytes_in, bytes_of, numbers, writes_of
 use Rattle.h5w_cache.specs.StoreLaws.{IsPlaced, IsRetired, range_of}
 use Rattle.h5w_cache.specs.declared.moves.Move.{Move}
 use Rattle.h5w_cache.proofs.MoveLemmas.{Apart-sides}
-use Rattle.h5w_cache.proofs.LawLemmas.{standing_after}
+use Rattle.h5w_cache.proofs.LawLemmas.{standing_after, no_move}
 use Rattle.h5w_visits.specs.Ranges.{block_at}
 use Rattle.h5w_array_laws.specs.Parts.{Part, data_of, secondary_of, index_block, header, IsPart, number_of}
 use Rattle.h5w_array_laws.specs.ArrayStores.{IsArray, place_at_part, bytes_at_part, header_place}
 use Rattle.h5w_array_laws.specs.ArrayImages.{HeaderStands, StandsArray}
 use Rattle.h5w_array_laws.specs.ArrayPlans.{fresh}
 use Rattle.h5w_array_laws.specs.ArrayWrites.{AreCopies, WritesLeave, PlanCopies, CopiesMiss, InPlaceStands}
-use Rattle.h5w_array_laws.proofs.StoreLemmas.{no_move, move_at}
+use Rattle.h5w_array_laws.proofs.StoreLemmas.{move_at}
 use Rattle.h5w_array_laws.proofs.StandLemmas.{header_fits, header_length, header_placed, index_placed, header_stands}
 use Rattle.h5w_array_laws.proofs.PlanLemmas.{two_apart, all_clean}
 use Rattle.h5w_array_laws.proofs.PlannedLemmas.{clean_block, clean_place}

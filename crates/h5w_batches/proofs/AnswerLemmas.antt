@@ -62,7 +62,7 @@ told : (o : Option (List ℕ)) → IsSome o → (input : List ℕ) × (o ≡ Som
 told None some = absurd (cc)
 told (Some input) some = (input, refl)
 
-at_told : (o : Option (List ℕ)) (P : List ℕ → Type 0) (input : List ℕ) → o ≡ Some input → IfSome o P → P input
+pub at_told : (o : Option (List ℕ)) (P : List ℕ → Type 0) (input : List ℕ) → o ≡ Some input → IfSome o P → P input
 at_told o P input e h = subst (λ (q : Option (List ℕ)). IfSome q P) e h
 
 all_not_outside : {columns : ℕ} {s t : SourceView} {number : ℕ} {numbers : List (List ℤ)} (input : List ℕ) → s.left ≡ Some input → ReadsAll columns s t numbers → ReadsOutside columns s number → ⊥
@@ -126,3 +126,6 @@ beside columns s t errors.OutOfMemory h r = tt
 pub completes_of : {T : Type 0} (columns : ℕ) (s t : SourceView) (r : Result T BatchError) → HasNumbers columns s → IfErr r (Refuses columns s t) → IfErr r IsBeside
 completes_of columns s t (Ok x) h f = tt
 completes_of columns s t (Err e) h f = beside columns s t e h f
+
+pub joined : (out one two x y : List ℕ) → one ≡ out ++ x → two ≡ one ++ y → two ≡ out ++ (x ++ y)
+joined out one two x y p q = q ∙ ap (λ l. l ++ y) p ∙ append_assoc out x y

@@ -16,14 +16,15 @@ use Rattle.h5w_model.proofs.ImageLemmas.{range-apply_missed}
 use Rattle.h5w_visits.specs.Ranges.{Among, block_at, blocks_of}
 use Rattle.h5w_visits.specs.Indexes.{behind_visit}
 use Rattle.h5w_visits.proofs.RangeLemmas.{among_left, among_right}
+use Rattle.h5w_visits.proofs.IndexVisits.{look_at, block_read}
 use Rattle.h5w_steps.specs.Moments.{Moment, Represents}
 use Rattle.h5w_steps.proofs.StepRepresents.{MissesEach, ends_missed}
-use Rattle.h5w_array_laws.proofs.InPlaceLemmas.{block_read, from_header, header_read, look_at, of_dataset}
+use Rattle.h5w_array_laws.proofs.InPlaceLemmas.{from_header, header_read, of_dataset}
 use Rattle.h5w_array_laws.proofs.StandLemmas.{header_fits}
 use Rattle.h5w_flush_laws.proofs.FlushLaws.{freed_known}
-use Rattle.h5w_flush_laws.proofs.KnownLaws.{begin_knows, end_known}
+use Rattle.h5w_flush_laws.proofs.KnownLaws.{begin_knows, end_known, one_answer}
 use Rattle.h5w_starting_laws.specs.Starting.{no_chunk}
-use Rattle.h5w_starting_laws.proofs.StartLemmas.{one_answer, one_list}
+use Rattle.h5w_starting_laws.proofs.StartLemmas.{one_list}
 use Rattle.h5w_block_laws.specs.HeaderAlone.{IsHeaderAlone, AloneBegins, AloneEnds, AloneFreed, AloneNowhere}
 
 -- whatever is asked of the program that reads the blocks in place: it ends with the header

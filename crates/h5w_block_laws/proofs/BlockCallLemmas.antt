@@ -24,9 +24,9 @@ use Rattle.h5w_array_laws.specs.ArrayImages.{StartsArray}
 use Rattle.h5w_array_laws.proofs.CreatedLemmas.{created_starts}
 use Rattle.h5w_flush_laws.specs.Spaces.{AllLive, Taken, extent_of}
 use Rattle.h5w_flush_laws.specs.Parts.{Parts, pieces_of}
+use Rattle.h5w_flush_laws.specs.Chunks.{chunks_for}
 use Rattle.h5w_flush_laws.proofs.SpaceLemmas.{taken_disjoint}
 use Rattle.h5w_array_flushes.specs.ArrayBegins.{Begins}
-use Rattle.h5w_array_flushes.specs.ArrayFlushes.{chunks_for}
 use Rattle.h5w_starting_laws.specs.Starting.{no_chunk, IsBlank}
 use Rattle.h5w_starting_laws.specs.StartCalls.{first_shown}
 use Rattle.h5w_starting_laws.specs.StartFlushes.{HasStartingPart}

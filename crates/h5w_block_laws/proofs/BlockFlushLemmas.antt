@@ -29,9 +29,9 @@ use Rattle.h5w_array_laws.proofs.WriteLemmas.{writes_leave}
 use Rattle.h5w_flush_laws.specs.Knowledge.{HeldMissed}
 use Rattle.h5w_flush_laws.specs.Spaces.{Taken}
 use Rattle.h5w_flush_laws.specs.Parts.{Parts, IsFlush, block_ranges, block_writes, copied, ended}
+use Rattle.h5w_flush_laws.specs.Chunks.{chunks_for}
 use Rattle.h5w_flush_laws.proofs.FlushLemmas.{end_misses}
 use Rattle.h5w_flush_laws.proofs.SpaceLemmas.{taken_disjoint}
-use Rattle.h5w_array_flushes.specs.ArrayFlushes.{chunks_for}
 use Rattle.h5w_starting_laws.specs.Starting.{no_chunk}
 use Rattle.h5w_starting_laws.proofs.FirstLemmas as first
 use Rattle.h5w_starting_laws.proofs.FirstLemmas.{RisesTo, ShowsFirst, header_of, second_of}

@@ -20,9 +20,9 @@ use Rattle.h5w_array_laws.proofs.StandLemmas.{header_placed, header_stands}
 use Rattle.h5w_array_laws.proofs.WriteLemmas.{which_part, writes_leave}
 use Rattle.h5w_flush_laws.specs.Knowledge.{HeldMissed}
 use Rattle.h5w_flush_laws.specs.Parts.{Parts, IsFlush, block_writes, copied, ended}
+use Rattle.h5w_flush_laws.specs.Chunks.{chunks_for}
 use Rattle.h5w_flush_laws.proofs.FlushLemmas.{supers_miss}
 use Rattle.h5w_flush_laws.proofs.HeaderLemmas.{last_image}
-use Rattle.h5w_array_flushes.specs.ArrayFlushes.{chunks_for}
 use Rattle.h5w_array_flushes.proofs.ArrayFlushLemmas.{placed_range}
 use Rattle.h5w_starting_laws.specs.Starting.{no_chunk}
 use Rattle.h5w_starting_laws.specs.StartFlushes.{IsStarted}

@@ -19,7 +19,7 @@ use Rattle.h5w_array_laws.specs.ArrayStores.{place_at_part, bytes_at_part, heade
 use Rattle.h5w_flush_laws.specs.Spaces.{Taken}
 use Rattle.h5w_flush_laws.specs.Parts.{Parts, AreEnded, IsFlush, pieces_of, block_writes}
 use Rattle.h5w_flush_laws.specs.Rows.{ArePlaced}
-use Rattle.h5w_array_flushes.specs.ArrayFlushes.{chunks_for}
+use Rattle.h5w_flush_laws.specs.Chunks.{chunks_for}
 use Rattle.h5w_starting_laws.specs.Starting.{no_chunk, IsBlank}
 use Rattle.h5w_starting_laws.specs.StartFlushes.{IsStarted, IsStartedOver, IsStartingPart, first_parts}
 use Rattle.h5w_block_laws.specs.HeaderAlone.{AloneKnows}

@@ -1,6 +1,6 @@
 -- Records and child pointers that are read one after another.
-use Rattle.std.proofs.Common.{◌≡◌, ℕ, zero, suc, ◌+◌, ◌-◌, ◌*◌, ◌<◌, ◌≤◌, List, [], ◌∷◌, ◌++◌, sym, ap, ◌∙◌, arith, Ok, Err, Result, cond, false, true, nat_le}
-use Rattle.std.proofs.lemmas.Bool.Decides.{nat_tests}
+use Rattle.std.proofs.Common.{◌≡◌, ℕ, zero, suc, ◌+◌, ◌-◌, ◌*◌, ◌<◌, ◌≤◌, List, [], ◌∷◌, ◌++◌, sym, ap, ◌∙◌, arith, Ok, Err, Result, cond, nat_le}
+use Rattle.std.proofs.lemmas.Bool.{le-leb, lt-leb}
 use Rattle.h5w_model.specs.Numbers.{field}
 use Rattle.h5w_model.specs.Checked.{checked}
 use Rattle.h5w_model.specs.Trees.{records_in, children_in, child_tests, pointer_size, capacity_of}
@@ -41,17 +41,11 @@ counts_left-more b at depth n from i k e f =
     ∙ ap (λ q. cond (nat_le (field b (from + i * w + 8) 1) (capacity_of (depth - 1))) (checked (child_tests b at depth k q) (tt {0})) (Err (Field (at + (from + i * w) + 8) (field b (from + i * w + 8) 1)))) p
     ∙ ap (λ m. cond (nat_le (field b (from + i * w + 8) 1) (capacity_of (depth - 1))) (checked (child_tests b at depth m (from + (i + 1) * w)) (tt {0})) (Err (Field (at + (from + i * w) + 8) (field b (from + i * w + 8) 1)))) (sym f)
 
-holds : (m n : ℕ) → m ≤ n → nat_le m n ≡ true
-holds m n h = grind (arith, nat_tests)
-
-fails : (m n : ℕ) → n < m → nat_le m n ≡ false
-fails m n h = grind (arith, nat_tests)
-
 pub counts_left-passes : (b : List ℕ) (at depth n from i : ℕ) → i < n → field b (from + i * pointer_size depth + 8) 1 ≤ capacity_of (depth - 1) → counts_left b at depth n from i ≡ counts_left b at depth n from (i + 1)
 counts_left-passes b at depth n from i h le =
     let place : ℕ = from + i * pointer_size depth in
     counts_left-more b at depth n from i (n - i - 1) (omega arith) (omega arith)
-    ∙ ap (λ t. cond t (counts_left b at depth n from (i + 1)) (Err (Field (at + place + 8) (field b (place + 8) 1)))) (holds (field b (place + 8) 1) (capacity_of (depth - 1)) le)
+    ∙ ap (λ t. cond t (counts_left b at depth n from (i + 1)) (Err (Field (at + place + 8) (field b (place + 8) 1)))) (le-leb (field b (place + 8) 1) (capacity_of (depth - 1)) le)
 
 pub counts_left-fails : (b : List ℕ) (at depth n from i : ℕ) → i < n → capacity_of (depth - 1) < field b (from + i * pointer_size depth + 8) 1 →
     counts_left b at depth n from i ≡ Err (Field (at + (from + i * pointer_size depth + 8)) (field b (from + i * pointer_size depth + 8) 1))
@@ -59,7 +53,7 @@ counts_left-fails b at depth n from i h lt =
     let place : ℕ = from + i * pointer_size depth in
     let e : at + place + 8 ≡ at + (place + 8) = omega arith in
     counts_left-more b at depth n from i (n - i - 1) (omega arith) (omega arith)
-    ∙ ap (λ t. cond t (counts_left b at depth n from (i + 1)) (Err (Field (at + place + 8) (field b (place + 8) 1)))) (fails (field b (place + 8) 1) (capacity_of (depth - 1)) lt)
+    ∙ ap (λ t. cond t (counts_left b at depth n from (i + 1)) (Err (Field (at + place + 8) (field b (place + 8) 1)))) (lt-leb (field b (place + 8) 1) (capacity_of (depth - 1)) lt)
     ∙ ap (λ p. Err (Field p (field b (place + 8) 1))) e
 
 pub counts_left-none : (b : List ℕ) (at depth n from i : ℕ) → n ≤ i → counts_left b at depth n from i ≡ Ok (tt {0})

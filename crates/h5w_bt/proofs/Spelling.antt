@@ -1,6 +1,6 @@
 -- The blocks of a tree as they are written, and that they are read back.
 use Rattle.std.proofs.Common.{◌≡◌, ℕ, zero, suc, ◌+◌, ◌-◌, ◌*◌, ◌^◌, ◌<◌, ◌≤◌, cond, true, false, nat_le, List, [], ◌∷◌, ◌++◌, length, take, drop, Ok, refl, sym, ap, subst, ◌∙◌, inl, inr, arith, append_assoc, length-append, codes}
-use Rattle.std.proofs.lemmas.Bool.{cases_lt, eq-eqb}
+use Rattle.std.proofs.lemmas.Bool.{cases_lt, eq-eqb, le-leb}
 use Rattle.std.proofs.lemmas.Bool.Decides.{nat_tests}
 use Rattle.std.proofs.lemmas.List.Elements.{All-head, All-tail, All-weaker}
 use Rattle.std.specs.List.{All, flat_map}
@@ -15,9 +15,6 @@ use Rattle.h5w_model.proofs.PutLemmas.{put-next, put-sealed}
 use Rattle.h5w_bt.specs.Parts.{record_in, child_in, IsRecord, IsHeader, IsPointer, IsNode}
 use Rattle.h5w_bt.proofs.Tables.{capacity-few, capacity_row}
 use Rattle.h5w_bt.proofs.Writing.{length-record_bytes, length-child_bytes, length-each, child_bytes-leaf, child_bytes-inner}
-
-holds : (m n : ℕ) → m ≤ n → nat_le m n ≡ true
-holds m n h = grind (arith, nat_tests)
 
 -- ---- Records
 
@@ -66,7 +63,7 @@ few_records depth c h f =
 
 child_in-leaf : (b : List ℕ) (depth place : ℕ) (c : ChildFields) → depth ≤ 1 → IsPointer depth c → field b place 8 ≡ c.address → field b (place + 8) 1 ≡ c.records → child_in b depth place ≡ c
 child_in-leaf b depth place c h f address records =
-    let low : nat_le depth 1 ≡ true = holds depth 1 h in
+    let low : nat_le depth 1 ≡ true = le-leb depth 1 h in
     let total : cond (nat_le depth 1) (field b (place + 8) 1) (field b (place + 9) depth) ≡ c.total =
     ap (λ t. cond t (field b (place + 8) 1) (field b (place + 9) depth)) low ∙ records ∙ sym (f.leaf h) in
     λ i. record { address = address i; records = records i; total = total i }
@@ -137,7 +134,7 @@ pub counts-pass : (b : List ℕ) (at depth n from : ℕ) → All (λ (c : ChildF
 counts-pass b at depth zero from h = tt
 counts-pass b at depth (suc n) from h =
     let rest : List ChildFields = children_in b depth n (from + pointer_size depth) in (
-      holds (field b (from + 8) 1) (capacity_of (depth - 1)) (All-head (λ (c : ChildFields). c.records ≤ capacity_of (depth - 1)) (child_in b depth from) rest h),
+      le-leb (field b (from + 8) 1) (capacity_of (depth - 1)) (All-head (λ (c : ChildFields). c.records ≤ capacity_of (depth - 1)) (child_in b depth from) rest h),
       counts-pass b at depth n (from + pointer_size depth) (All-tail (λ (c : ChildFields). c.records ≤ capacity_of (depth - 1)) (child_in b depth from) rest h),
     )
 
@@ -225,10 +222,10 @@ bthd_at-bthd_body t place form root_fits total_fits =
     let records : field b 24 2 ≡ t.records = ap (λ l. field l 24 2) s3 ∙ field-at b2 r3 24 2 t.records n2 (omega (arith, form.few, capacity)) in
     let total : field b 26 8 ≡ t.total = field-at b3 sum 26 8 t.total n3 total_fits in
     let room : nat_le (field b 24 2) (capacity_of (field b 12 2)) ≡ true =
-    ap (λ v. nat_le v (capacity_of (field b 12 2))) records ∙ ap (λ v. nat_le t.records (capacity_of v)) depth ∙ holds t.records (capacity_of t.depth) form.few in
+    ap (λ v. nat_le v (capacity_of (field b 12 2))) records ∙ ap (λ v. nat_le t.records (capacity_of v)) depth ∙ le-leb t.records (capacity_of t.depth) form.few in
     let tests : AllPass (bthd_tests b place) =
     AllPass-append (block_tests (codes "BTHD") bthd_len b) (drop 3 (bthd_tests b place)) (sealed-passes (codes "BTHD") body 38 whole refl)
-    (refl, (refl, (refl, (refl, (ap (λ v. nat_le v 3) depth ∙ holds t.depth 3 form.shallow, (eq-eqb (field b 14 1) 100 split, (eq-eqb (field b 15 1) 40 merge, (room, tt)))))))) in
+    (refl, (refl, (refl, (refl, (ap (λ v. nat_le v 3) depth ∙ le-leb t.depth 3 form.shallow, (eq-eqb (field b 14 1) 100 split, (eq-eqb (field b 15 1) 40 merge, (room, tt)))))))) in
     checked-ok (bthd_tests b place) (bthd_fields b) tests
     ∙ λ i. Ok (record { depth = depth i; root = root i; records = records i; total = total i })
 

@@ -5,10 +5,10 @@ use Rattle.std.proofs.lemmas.List.Elements.{All-cons, All-nil}
 use Rattle.std.specs.List.{All}
 use Rattle.h5w_model.specs.declared.cell.Key.{Key}
 use Rattle.h5w_bt.specs.declared.records.Record.{Record}
+use Rattle.h5w_bt.proofs.KeyLemmas.{equal-is}
 use Rattle.h5w_bt_nodes.specs.Nodes.{rank, address_in, joined}
 use Rattle.h5w_bt_nodes.specs.Puts.{put_record, changed_at}
 use Rattle.h5w_bt_index.specs.Sound.{IsRising}
-use Rattle.h5w_bt_index.proofs.Keys.{equal-is}
 use Rattle.h5w_bt_nodes.proofs.Records.{under, here, past, side, put-under, put-here, in-under, in-here, in-past, rank-under, rank-not_under, none_is_not_some}
 use Rattle.h5w_bt_index.proofs.Rising.{AreBelow, below_all, put-behind, put-before, in-behind, in-before, rises-around}
 

@@ -1,5 +1,5 @@
 -- What a record put into an index is to the map.
-use Rattle.std.proofs.Common.{◌≡◌, ℕ, zero, suc, ◌≤◌, Bool, true, false, List, [], ◌∷◌, length, map, refl, sym, ap, ◌∙◌, subst, arith, Option, Some, None, if◌then◌else◌, inl, inr, Result, Ok, Err, OnOk, OnErr, MatchOption}
+use Rattle.std.proofs.Common.{◌≡◌, ℕ, zero, suc, ◌≤◌, Bool, true, false, List, [], ◌∷◌, length, map, refl, sym, ap, ◌∙◌, subst, arith, Option, Some, None, if◌then◌else◌, inl, inr, Result, Ok, Err, OnOk, MatchOption}
 use Rattle.std.proofs.lemmas.Bool.{ltb-false, cond-true, cond-false, cases_Bool, cases_eq}
 use Rattle.std.specs.Option.{unwrap_or}
 use Rattle.h5w_model.specs.declared.cell.Key.{Key}
@@ -8,13 +8,13 @@ use Rattle.h5w_model.specs.Tables.{key_below, key_equal, in_leaf}
 use Rattle.h5w_model.specs.Trees.{capacity_of}
 use Rattle.h5w_bt.specs.declared.records.Record.{Record}
 use Rattle.h5w_bt.specs.Parts.{record_of}
+use Rattle.h5w_bt.proofs.KeyLemmas.{equal-is}
 use Rattle.h5w_bt_nodes.specs.Nodes.{Tree, all_records, records_of, address_in, found, total_of}
 use Rattle.h5w_bt_nodes.specs.Puts.{put_record, put, is_over, raised}
 use Rattle.h5w_bt_nodes.specs.Shapes.{IsShape}
 use Rattle.h5w_bt_index.specs.Sound.{IsRising, IsSound}
 use Rattle.h5w_bt_index.specs.Marks.{Part, IsMarked}
 use Rattle.h5w_bt_index.specs.Index.{Index, records, address_of, regrown, inserted, IsBlocked, IsIndex, IsShaped, HasShares, KeepsShares, IsClean, IsDeep, IsThere, found_address}
-use Rattle.h5w_bt_index.proofs.Keys.{equal-is}
 use Rattle.h5w_bt_nodes.proofs.Records.{under, here, past, side, in-under, in-here, in-past}
 use Rattle.h5w_bt_index.proofs.Rising.{put-finds_same, put-finds_other, put-rises}
 use Rattle.h5w_bt_nodes.proofs.Parts.{over-half}
@@ -206,10 +206,6 @@ same-index x v u o e =
 pub on_ok : {T E : Type 0} (r : Result T E) (P Q : Type 0) → (P → Q) → OnOk r P → OnOk r Q
 on_ok (Ok a) P Q f h = f h
 on_ok (Err e) P Q f h = tt
-
-pub on_err : {T E : Type 0} (r : Result T E) (P Q : Type 0) → (P → Q) → OnErr r P → OnErr r Q
-on_err (Ok a) P Q f h = tt
-on_err (Err e) P Q f h = f h
 
 -- what a root became by a record more
 abbrev pub Became : {A : Type 0} → (d : ℕ) → Tree d → (A → Tree (suc d)) → Tree d → Record → Option A → Type 0

@@ -1,4 +1,3 @@
-pub mod Keys
 pub mod Rising
 pub mod Joined
 pub mod Parts

@@ -19,10 +19,6 @@ pub rebound : (d m n : ℕ) (t : Tree d) → length (records_of d t) ≤ n → I
 rebound zero m n t h s = h
 rebound (suc d) m n t h s = record { few = h; children = s.children; total = s.total; each = s.each }
 
-pub few_of : (d m : ℕ) (t : Tree d) → IsSound d m t → length (records_of d t) ≤ m
-few_of zero m t s = s
-few_of (suc d) m t s = s.few
-
 pub left_sound : (d m : ℕ) (t : Tree d) → half d < length (records_of d t) → IsSound d m t → IsSound d (capacity_of d) (left_of d t)
 left_sound zero m t h s = taken_few (half zero) (capacity_of zero) t.records (half_fits (capacity_of zero))
 left_sound (suc d) m t h s = record {

@@ -6,19 +6,20 @@ use Rattle.h5w_model.specs.Trees.{capacity_of}
 use Rattle.h5w_model.specs.Tables.{key_equal}
 use Rattle.h5w_space.specs.Space.{Space}
 use Rattle.h5w_bt.specs.declared.records.Record.{Record}
+use Rattle.h5w_bt.proofs.KeyLemmas.{equal-is}
 use Rattle.h5w_bt_nodes.specs.Nodes.{Tree, address_in, found}
 use Rattle.h5w_bt_nodes.specs.Puts.{is_over, put, put_record, raised, settled, with_divided}
 use Rattle.h5w_bt_nodes.specs.Shapes.{IsShape}
 use Rattle.h5w_bt_index.specs.Marks.{clean_of}
 use Rattle.h5w_bt_index.specs.Index.{Index, IsIndex, IsShaped, IsReplaced, IsThere, found_by, inserted, keys_of, records}
-use Rattle.h5w_bt_nodes.specs.Blocks.{AllRead, placed, stood, writes_of, written}
+use Rattle.h5w_bt_nodes.specs.Blocks.{AllRead, placed, writes_of, written}
 use Rattle.h5w_bt_index.specs.Plans.{IsTreePlan}
-use Rattle.h5w_bt_index.proofs.Keys.{equal-is}
 use Rattle.h5w_bt_nodes.proofs.Records.{under, here, past, side, put-under, put-here, in-under, in-past, none_is_not_some}
 use Rattle.h5w_bt_index.proofs.Rising.{put-finds_other}
 use Rattle.h5w_bt_nodes.proofs.Steps.{is_there, there, not_there, put_here, put_below, went_down}
 use Rattle.h5w_bt_nodes.proofs.Over.{over-blocked}
 use Rattle.h5w_bt_index.proofs.Laws.{finds, index_shaped, inserted-clean, inserted-index, inserted-map, inserted-records, inserted-shaped, inserted-shares, put-there, same-index}
+use Rattle.h5w_bt_index.proofs.Placed.{clean_stood}
 
 -- ---- Its key has a record
 
@@ -127,10 +128,6 @@ pub not_missed : (v : Index) (key : Key) → IsIndex v → IsThere v key → fou
 not_missed v key i h e = h (sym (finds v key i) ∙ e)
 
 -- ---- No node changed
-
-pub clean_stood : (d : ℕ) (t : Tree d) → clean_of d t ≡ true → stood d t ≡ []
-clean_stood zero t e = cond-true t.clean _ _ e
-clean_stood (suc d) t e = cond-true t.clean _ _ e
 
 pub clean_placed : (d : ℕ) (ps : List ℕ) (t : Tree d) → clean_of d t ≡ true → placed d ps t ≡ t
 clean_placed zero ps t e = cond-true t.clean _ _ e

@@ -6,10 +6,10 @@ use Rattle.std.specs.List.{All}
 use Rattle.h5w_model.specs.declared.cell.Key.{Key}
 use Rattle.h5w_model.specs.Tables.{key_below, key_equal}
 use Rattle.h5w_bt.specs.declared.records.Record.{Record}
+use Rattle.h5w_bt.proofs.KeyLemmas.{below-trans, below-not_back, equal-is, equal-self, below-not_self, above-not_equal, above-from}
 use Rattle.h5w_bt_nodes.specs.Nodes.{address_in}
 use Rattle.h5w_bt_nodes.specs.Puts.{put_record}
 use Rattle.h5w_bt_index.specs.Sound.{IsRising}
-use Rattle.h5w_bt_index.proofs.Keys.{below-trans, below-not_back, below-not_self, above-not_equal, above-from, equal-is, equal-self}
 use Rattle.h5w_bt_nodes.proofs.Records.{here, in-here, in-past, in-under, past, put-here, put-past, put-under, side, under}
 
 -- each is below the key; each is above it

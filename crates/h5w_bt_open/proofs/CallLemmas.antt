@@ -1,6 +1,5 @@
 -- What calls say of an image while a tree is opened.
 use Rattle.std.proofs.Common.{◌≡◌, ◌≢◌, ℕ, List, Result, Ok, Err, ap, arith}
-use Rattle.h5w_model.specs.Causes.{Rose}
 use Rattle.h5w_model.specs.declared.refusal.BlockFault.{BlockFault}
 use Rattle.h5w_image.specs.View.{ImageView, Looked}
 use Rattle.h5w_image.proofs.ViewLemmas.{looked_twice}
@@ -24,9 +23,6 @@ same_error e h = let k : e ≡ Failed = cc in ap (λ x. Err x) k
 pub on_damaged_map : {A : Type 0} (r : Result A OpenTreeError) (P Q : ℕ → BlockFault → Type 0) → ((a : ℕ) (f : BlockFault) → P a f → Q a f) → OnDamaged r P → OnDamaged r Q
 on_damaged_map (Ok a) P Q up h = tt
 on_damaged_map (Err e) P Q up h = damaged_map e P Q up h
-
-pub loads_as : {A B : Type 0} {v w : ImageView} (P : List ℕ → ℕ → BlockFault → Type 0) (e : OpenTreeError) → Loads {A = A} v w P (Err e) → Loads {A = B} v w P (Err e)
-loads_as {A} {B} P e h = record { looked = h.looked; cause = λ x. h.cause (same_error {A = A} {B = B} e x); damaged = h.damaged }
 
 -- nothing was refused
 pub looks_alone : {A : Type 0} {v w : ImageView} (P : List ℕ → ℕ → BlockFault → Type 0) (a : A) → Looked v w → Loads {A = A} v w P (Ok a)
@@ -52,14 +48,6 @@ loads_quiet {B} P S e looked quiet up h = record {
   looked = looked;
   cause = λ x. absurd (quiet (let y : e ≡ Failed = cc in y));
   damaged = λ img still. damaged_map e S (P img) (up img still) h;
-}
-
--- want of memory, or of the image
-pub loads_failed : {A B : Type 0} {v w : ImageView} (P : List ℕ → ℕ → BlockFault → Type 0) (e : OpenTreeError) → Looked v w → (as_error {B = A} e ≡ Err Failed → Rose v.faults w.faults) → IfDamaged e (λ a f. ⊥) → Loads {A = B} v w P (Err e)
-loads_failed {A} {B} P e looked cause h = record {
-  looked = looked;
-  cause = λ x. cause (same_error {A = A} {B = B} e x);
-  damaged = λ img still. damaged_map e (λ a f. ⊥) (P img) (λ a f none. absurd none) h;
 }
 
 -- the same of any answer

@@ -17,11 +17,11 @@ use Rattle.h5w_laws.proofs.ResultLemmas.{then_from}
 use Rattle.h5w_laws.proofs.SlotLemmas.{refused_from}
 use Rattle.h5w_bt.specs.declared.records.Record.{Record}
 use Rattle.h5w_bt.specs.Parts.{record_of}
+use Rattle.h5w_bt.proofs.KeyLemmas.{above-from}
 use Rattle.h5w_bt_nodes.specs.Nodes.{Tree, address_in, found, rank}
 use Rattle.h5w_bt_nodes.specs.Shapes.{IsShape, IsShapedChild}
 use Rattle.h5w_bt_index.proofs.Laws.{in_leaf-is}
 use Rattle.h5w_bt_nodes.proofs.Records.{here, in-here, in-past, in-under, past, rank-not_under, rank-under, side, under}
-use Rattle.h5w_bt_index.proofs.Keys.{above-from}
 use Rattle.h5w_bt_open.specs.declared.span.Span.{Span}
 use Rattle.h5w_bt_open.specs.Spans.{IsKey, Leads, after, before, high_of, low_of, span_of}
 use Rattle.h5w_bt_open.specs.Opened.{EachOpened, IsOpened, going, looked_below, looked_up}

@@ -1,9 +1,8 @@
 -- The shape of nodes that were read, and of those that stand for others.
-use Rattle.std.proofs.Common.{◌≡◌, inl, inr, ℕ, zero, suc, ◌+◌, ◌-◌, ◌*◌, ◌<◌, ◌≤◌, ◌^◌, Bool, true, false, List, [], ◌∷◌, ◌++◌, length, map, Option, Ok, refl, sym, ap, subst, ◌∙◌, arith, nat_le, leb-true, if◌then◌else◌}
+use Rattle.std.proofs.Common.{◌≡◌, inl, inr, ℕ, zero, suc, ◌+◌, ◌-◌, ◌*◌, ◌<◌, ◌≤◌, ◌^◌, Bool, true, List, [], ◌∷◌, ◌++◌, length, map, Option, Ok, refl, sym, ap, subst, ◌∙◌, arith, nat_le, leb-true, if◌then◌else◌}
 use Rattle.std.specs.Prelude.{codes}
 use Rattle.std.specs.List.{All}
-use Rattle.std.proofs.lemmas.Bool.{cond-false}
-use Rattle.std.proofs.lemmas.Bool.Decides.{nat_tests}
+use Rattle.std.proofs.lemmas.Bool.{cond-false, lt-leb}
 use Rattle.std.proofs.lemmas.List.{length-map}
 use Rattle.std.proofs.lemmas.List.Elements.{All-cons, All-head, All-nil, All-tail}
 use Rattle.h5w_model.specs.Numbers.{AreBytes, field}
@@ -13,6 +12,7 @@ use Rattle.h5w_model.proofs.CheckedLemmas.{AllPass, checked-passed}
 use Rattle.h5w_model.proofs.NumberLemmas.{field-lt}
 use Rattle.h5w_bt.specs.declared.records.Record.{Record}
 use Rattle.h5w_bt.specs.Parts.{IsHeader, record_of}
+use Rattle.h5w_laws.proofs.NodeLemmas.{length-records_in, length-children_in}
 use Rattle.h5w_bt_nodes.specs.Nodes.{Tree, total_of}
 use Rattle.h5w_bt_index.specs.Marks.{IsMarked, clean_of}
 use Rattle.h5w_bt_nodes.specs.Shapes.{IsShapedChild}
@@ -21,21 +21,10 @@ use Rattle.h5w_bt_open.specs.Opened.{AreWhole, IsChild, IsHeld, IsLeafIn, IsOpen
 
 -- ---- What was read
 
-not_within : (m n : ℕ) → n < m → nat_le m n ≡ false
-not_within m n h = grind (arith, nat_tests)
-
-records_long : (b : List ℕ) (n place : ℕ) → length (records_in b n place) ≡ n
-records_long b zero place = refl
-records_long b (suc n) place = ap suc (records_long b n (place + 24))
-
-children_long : (b : List ℕ) (depth n place : ℕ) → length (children_in b depth n place) ≡ n
-children_long b depth zero place = refl
-children_long b depth (suc n) place = ap suc (children_long b depth n (place + pointer_size depth))
-
 pub leaf_count : (b : List ℕ) (at n : ℕ) (rs : List Record) → btlf_at b at n ≡ Ok (map record_of rs) → length rs ≡ n
 leaf_count b at n rs e =
     let p = checked-passed (block_tests (codes "BTLF") (btlf_len n) b ++ node_tests b at) (records_in b n 6) (map record_of rs) e in
-    sym (length-map rs record_of) ∙ ap (length {A = RecordFields}) (sym p.1) ∙ records_long b n 6
+    sym (length-map rs record_of) ∙ ap (length {A = RecordFields}) (sym p.1) ∙ length-records_in b n 6
 
 child_few : (b : List ℕ) (at d n from : ℕ) → AreBytes b → suc d ≤ 3 → from + n * pointer_size (suc d) ≤ length b → AllPass (child_tests b at (suc d) n from) → All (IsChild d) (children_in b (suc d) n from)
 child_few b at d zero from bytes low inside pass = All-nil (IsChild d)
@@ -48,15 +37,15 @@ child_few b at d (suc n) from bytes low inside pass =
         → said d (record { address = field b from 8; records = field b (from + 8) 1; total = if nat_le (suc d) 1 then field b (from + 8) 1 else field b (from + 9) (suc d) }) < 256 ^ suc d
     fits zero low h = field-lt b (from + 8) 1 bytes (omega (arith, h))
     fits (suc e) low h =
-        subst (λ (k : ℕ). k < 256 ^ suc (suc e)) (sym (cond-false (nat_le (suc (suc e)) 1) _ _ (not_within (suc (suc e)) 1 (omega arith)))) (field-lt b (from + 9) (suc (suc e)) bytes (omega (arith, h)))
+        subst (λ (k : ℕ). k < 256 ^ suc (suc e)) (sym (cond-false (nat_le (suc (suc e)) 1) _ _ (lt-leb (suc (suc e)) 1 (omega arith)))) (field-lt b (from + 9) (suc (suc e)) bytes (omega (arith, h)))
 
 pub node_read : (b : List ℕ) (at n d : ℕ) (v : BtinFields) → AreBytes b → suc d ≤ 3 → btin_at b at n (suc d) ≡ Ok v → IsRead d n v
 node_read b at n d v bytes low e =
     let p = checked-passed (block_tests (codes "BTIN") (btin_len n (suc d)) b ++ node_tests b at ++ child_tests b at (suc d) (n + 1) (6 + 24 * n)) (btin_fields b n (suc d)) v e in
     let long : btin_len n (suc d) ≤ length b = leb-true (btin_len n (suc d)) (length b) p.0.0 in
     record {
-      records = ap (λ (t : BtinFields). length t.records) (sym p.1) ∙ records_long b n 6;
-      children = ap (λ (t : BtinFields). length t.children) (sym p.1) ∙ children_long b (suc d) (n + 1) (6 + 24 * n);
+      records = ap (λ (t : BtinFields). length t.records) (sym p.1) ∙ length-records_in b n 6;
+      children = ap (λ (t : BtinFields). length t.children) (sym p.1) ∙ length-children_in b (suc d) (n + 1) (6 + 24 * n);
       pointers = subst (λ (t : BtinFields). All (IsChild d) t.children) p.1 (child_few b at d (n + 1) (6 + 24 * n) bytes low (omega (arith, long)) p.0.1.1.1.1.1);
     }
 

@@ -12,8 +12,8 @@ use Rattle.h5w_model.specs.declared.refusal.ReadError.{ReadError}
 use Rattle.h5w_model.specs.declared.refusal.ReadError.TheVariants.{Damaged}
 use Rattle.h5w_bt.specs.declared.records.Record.{Record}
 use Rattle.h5w_bt.specs.Parts.{record_of}
+use Rattle.h5w_bt.proofs.KeyLemmas.{below-trans, below-not_back, below-not_self, above-not_equal, above-from}
 use Rattle.h5w_bt_nodes.proofs.Records.{here, past, side, under}
-use Rattle.h5w_bt_index.proofs.Keys.{above-from, below-not_back, below-not_self, below-trans, above-not_equal}
 use Rattle.h5w_bt_open.specs.declared.span.Span.{Span}
 use Rattle.h5w_bt_open.specs.Spans.{IsKey, IsProper, Leads, after, before, low_behind, rest, span_here, span_of}
 use Rattle.h5w_bt_open.specs.Opened.{IsRefused, going, looked_below, looked_up}

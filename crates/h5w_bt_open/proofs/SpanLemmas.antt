@@ -4,7 +4,7 @@ use Rattle.std.proofs.lemmas.Bool.{both_ways, cases_order, false_from_ne_true, l
 use Rattle.h5w_model.specs.declared.cell.Key.{Key}
 use Rattle.h5w_model.specs.Numbers.{undefined}
 use Rattle.h5w_model.specs.Tables.{key_below}
-use Rattle.h5w_bt_index.proofs.Keys.{Less, below-not_back, below-trans, below_from, below_is}
+use Rattle.h5w_bt.proofs.KeyLemmas.{Less, below_from, below_is, below-trans, below-not_back}
 use Rattle.h5w_bt_open.specs.declared.span.Span.{Span}
 use Rattle.h5w_bt_open.specs.Spans.{IsFrom, IsKey, IsUpTo, Leads, after, before, greater, high_of, low_of, next_key, span_of}
 

@@ -16,13 +16,13 @@ use Rattle.h5w_laws.proofs.ResultLemmas.{and_then_ok, choice_ok, then_ok}
 use Rattle.h5w_laws.proofs.ReachLemmas.{node_ok}
 use Rattle.h5w_bt.specs.declared.records.Record.{Record}
 use Rattle.h5w_bt.specs.Parts.{record_of}
+use Rattle.h5w_bt.proofs.KeyLemmas.{below-trans}
 use Rattle.h5w_bt_nodes.specs.Nodes.{Tree, all_records, joined}
 use Rattle.h5w_bt_nodes.specs.Shapes.{IsShape, IsShapedChild}
 use Rattle.h5w_bt_index.specs.Sound.{IsRising, IsSound}
 use Rattle.h5w_bt_nodes.specs.Puts.{changed_node, counted}
 use Rattle.h5w_bt_index.specs.Index.{keys_of, records}
 use Rattle.h5w_bt_index.proofs.Grown.{total_is}
-use Rattle.h5w_bt_index.proofs.Keys.{below-trans}
 use Rattle.h5w_bt_open.specs.declared.span.Span.{Span}
 use Rattle.h5w_bt_open.specs.Spans.{high_of, low_behind, low_of, span_here}
 use Rattle.h5w_bt_open.specs.Opened.{EachOpened, IsOpened, from_key, root_pointer, told_under}

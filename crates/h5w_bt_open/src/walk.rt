@@ -6,7 +6,8 @@ ghost use Rattle.h5w_model.specs.Trees.{capacity_of};
 ghost use Rattle.h5w_bt_nodes.specs.Nodes.{all_records, joined};
 ghost use Rattle.h5w_bt_nodes.specs.Shapes.{IsShape, IsShapedChild};
 ghost use Rattle.h5w_bt_index.specs.Sound.{IsSound};
-ghost use Rattle.h5w_bt_open.specs.Needed.{needed_ranges, node_extent, of_each};
+ghost use Rattle.h5w_bt_open.specs.Needed.{needed_ranges, of_each};
+ghost use Rattle.h5w_space.specs.Ranges.{range_at};
 ghost use Rattle.h5w_bt_open.specs.Spans.{high_of, low_of};
 
 use crate::load::node_len;
@@ -38,7 +39,7 @@ pub trait Walk: Subtree {
 
 /// Adds the range of a node of so many bytes at a place, where it has one.
 fn add_range(place: u64, size: u64, out: &mut Vec<Extent>) -> Result<(), OutOfMemory>
-    ensures { OnOk result (out.new.items ≡ out.old.items ++ node_extent place size) }
+    ensures { OnOk result (out.new.items ≡ out.old.items ++ range_at place size) }
 {
     if place != UNDEFINED {
         out.push(Extent { at: place, size })?;

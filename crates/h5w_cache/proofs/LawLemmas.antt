@@ -15,13 +15,14 @@ use Rattle.h5w_model.specs.declared.piece.Write.{Write}
 use Rattle.h5w_model.proofs.ImageLemmas.{AllMiss-append, At-pieces, At-image_missed, image-append, pieces-miss}
 use Rattle.h5w_space.specs.Space.{Space, IsLive, Apart, extent}
 use Rattle.h5w_space.specs.declared.Extent.{Extent}
+use Rattle.h5w_space.proofs.Sound.{Apart-sym}
 use Rattle.h5w_cache.specs.declared.moves.Move.{Move}
 use Rattle.h5w_cache.specs.Blocks.{BlockView, spelled}
 use Rattle.h5w_cache.specs.Stores.{Store, block_of, place_of, place_in, times}
 use Rattle.h5w_cache.specs.Plans.{IsPlan, Took, block_in, bytes_in, bytes_of, moved, numbers, stays, writes_of}
 use Rattle.h5w_cache.specs.StoreLaws.{AreThere, IsForeign, IsLeft, IsPlaced, IsRetired, KeepsStore, Standing, range_of}
 use Rattle.h5w_cache.proofs.PlannedLemmas.{kept_inside, listed, moved-one, moved-other, respelled-kept, respelled-one, respelled-other, same_times, stays_true, times-other, times-same, times-more}
-use Rattle.h5w_cache.proofs.MoveLemmas.{Apart-flip, Apart-sides, IsMoveAt, at_move, found_move, left_retired, moves_live, retired_live, stayed_of, took_of, two_apart}
+use Rattle.h5w_cache.proofs.MoveLemmas.{Apart-sides, IsMoveAt, at_move, found_move, left_retired, moves_live, retired_live, stayed_of, took_of, two_apart}
 
 abbrev pub no_move : Move
 no_move = record { number = 0; old = 0; new = 0; len = 0; in_place = false }
@@ -132,7 +133,7 @@ two_taken v s ms cs fs w t p n k ne o q =
     λ i j lt inside e f. two_apart v.blocks v.places s ms p.taken.taken i j no_move p.taken.moves lt inside e f in
     subst (λ r. Apart r (range_of w k)) (taken_range v s ms cs fs w t p n o) (subst (λ r. Apart (extent (get_or ms o.index no_move).new (get_or ms o.index no_move).len) r) (taken_range v s ms cs fs w t p k q)
     (elim (cases_lt o.index q.index) [
-      | inl lt ↦ Apart-flip _ _ (by o.index q.index lt q.inside o.moves q.moves)
+      | inl lt ↦ Apart-sym _ _ (by o.index q.index lt q.inside o.moves q.moves)
       | inr ge ↦
           elim (cases_eq o.index q.index) [
             | inl e ↦ absurd (ne (sym o.number ∙ ap (λ i. (get_or ms i no_move).number) e ∙ q.number))
@@ -146,7 +147,7 @@ apart_after v s ms cs fs w t p st n k ne hn hk =
       | inl o ↦
           elim (fate v s ms cs fs w t p k hk) [
             | inl q ↦ subst (λ r. Apart r (range_of w k)) (old_range v s ms cs fs w t p n o) (subst (Apart (range_of v n)) (old_range v s ms cs fs w t p k q) (st.apart n k ne o.was q.was))
-            | inr q ↦ subst (λ r. Apart r (range_of w k)) (old_range v s ms cs fs w t p n o) (Apart-flip _ _ (taken_off v s ms cs fs w t p k q (range_of v n) (st.live n o.was)))
+            | inr q ↦ subst (λ r. Apart r (range_of w k)) (old_range v s ms cs fs w t p n o) (Apart-sym _ _ (taken_off v s ms cs fs w t p k q (range_of v n) (st.live n o.was)))
           ]
       | inr o ↦
           elim (fate v s ms cs fs w t p k hk) [

@@ -14,9 +14,6 @@ use Rattle.h5w_cache.specs.Plans.{AreMoves, AreRetired, IsMove, Placed, Retires,
 use Rattle.h5w_cache.specs.StoreLaws.{IsLeft, IsRetired}
 use Rattle.h5w_cache.proofs.PlannedLemmas.{times-other}
 
-pub Apart-flip : (r s : Extent) → Apart r s → Apart s r
-Apart-flip r s h = omega arith
-
 -- ranges that are apart as sums
 pub Apart-sides : (r s : Extent) → 0 < r.size → 0 < s.size → Apart r s → images.Apart r.at r.size s.at s.size
 Apart-sides r s a b h = elim (cases_lt s.at (r.at + r.size)) [ inl lt ↦ inr (omega arith) | inr ge ↦ inl (omega arith) ]

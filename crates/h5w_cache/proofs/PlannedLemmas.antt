@@ -200,10 +200,6 @@ cleaned-room (m ∷ ms) marks inside =
 
 -- ---- The store
 
-is_marked : (b : Bool) (n : ℕ) → 0 < n → n ≡ cond b 1 0 → b ≡ true
-is_marked true n h e = refl
-is_marked false n h e = absurd (omega arith)
-
 fits_if : (o : Option BlockView) (p : ℕ) → IfSome o (FitsAddresses p) → in_place_of o ≡ true → (p ≡ undefined → ⊥) → p + length (bytes_of o) < 2 ^ 64
 fits_if None p h stays = absurd (cc)
 fits_if (Some b) p h stays = h stays

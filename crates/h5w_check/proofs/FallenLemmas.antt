@@ -115,19 +115,16 @@ child_err img end bytes go down b i c rs cs totals old s f inside count low head
 
 -- ---- The end of a node
 
-abbrev all_ok : Bool → List Used → Span → Result (Bool × Spanned) Finding
-all_ok b us s = Ok (b, (us, s))
-
 end_same : (at : ℕ) (down t rising : Bool) (us vs : List Used) (s : Span) → counting (not rising || down) us ≡ counting (not rising || down) vs
     → faded down (cond (not t) (Err (found wrong_total at)) (cond (not rising) (Err (found keys_not_rising at)) (Ok (us, s)))) ≡ faded down (cond (not t) (Err (found wrong_total at)) (cond (not rising) (Err (found keys_not_rising at)) (Ok (vs, s))))
 end_same p down false rising us vs s h = refl
 end_same p down true false us vs s h = refl
 end_same p down true true us vs s h = ap (λ xs. spanned_ok xs s) h
 
-same_all : (b c : Bool) (us vs : List Used) (s t : Span) → all_ok b us s ≡ all_ok c vs t → (b ≡ c) × (us ≡ vs) × (s ≡ t)
+same_all : (b c : Bool) (us vs : List Used) (s t : Span) → totaled b us s ≡ totaled c vs t → (b ≡ c) × (us ≡ vs) × (s ≡ t)
 same_all b c us vs s t h = let e = same_value (b, (us, s)) (c, (vs, t)) h in (ap (λ (y : Bool × Spanned). y.0) e, ap (λ (y : Bool × Spanned). y.1.0) e, ap (λ (y : Bool × Spanned). y.1.1) e)
 
-pub end_faded : (at : ℕ) (down : Bool) (r : Result (Bool × Spanned) Finding) (t : Bool) (new : List Used) (s : Span) → all_faded down r ≡ all_ok t (counting (not s.rising || down) new) s
+pub end_faded : (at : ℕ) (down : Bool) (r : Result (Bool × Spanned) Finding) (t : Bool) (new : List Used) (s : Span) → all_faded down r ≡ totaled t (counting (not s.rising || down) new) s
     → faded down (then_also r (λ y. ended at y.0 y.1.0 y.1.1)) ≡ faded down (ended at t new s)
 end_faded p down (Err f) t new s h = absurd cc
 end_faded p down (Ok y) t new s h =

@@ -1,20 +1,13 @@
 -- How the answers of calls compose that may rest on the nodes that are known.
-use Rattle.std.proofs.Common.{◌≡◌, ℕ, List, Bool, true, false, cond, Option, Some, None, Result, Ok, Err, refl, sym, ◌∙◌, ap, subst}
+use Rattle.std.proofs.Common.{◌≡◌, ℕ, List, None, Result, Ok, Err, sym, ◌∙◌, subst}
 use Rattle.std.specs.Prelude.{IfSome}
-use Rattle.std.specs.declared.cmp.Ordering.TheVariants.{Equal}
-use Rattle.std.specs.Ordering.{nat_cmp, ordering_then}
-use Rattle.std.specs.Cmp.{Equal-is}
-use Rattle.std.specs.Map.{lookup}
-use Rattle.std.specs.BTreeMap.{Updates, IsUnchanged, is_at}
-use Rattle.std.proofs.lemmas.Map.Lookups.{exact_pairs, exact_unsigned}
 use Rattle.h5w_model.specs.Findings.{Finding, node_visit}
 use Rattle.h5w_model.specs.Programs.{eval}
 use Rattle.h5w_image.specs.View.{ImageView, Looked}
 use Rattle.h5w_image.proofs.ViewLemmas.{looked_twice, looked_itself}
 use Rattle.h5w_looks.specs.Still.{IsStill}
 use Rattle.h5w_check.specs.Ran.{Ran, Told, check_errors}
-use Rattle.h5w_check.specs.Known.{known, name_cmp, span_under, AreRight, Visits}
-use Rattle.h5w_check.specs.declared.span.Span.{Span}
+use Rattle.h5w_check.specs.Known.{known, span_under, AreRight, Visits}
 use Rattle.h5w_check.specs.declared.known.KnownNodes.{KnownNodes}
 use Rattle.h5w_check.specs.declared.error.CheckError.{CheckError}
 use Rattle.h5w_check.specs.declared.error.CheckError.TheVariants as errors
@@ -113,24 +106,3 @@ coming_refused {B} {C} given left q e so told joined = record {
   exact = λ img still right. stops_along check_errors q (given img) e (λ f h. so.exact img still right ∙ joined img f h) told.exact;
   kept = so.kept;
 }
-
--- names that compare equal are one
-same_name : (x y : ℕ × (ℕ × ℕ)) → name_cmp x y ≡ Equal → x ≡ y
-same_name x y h =
-    exact_pairs nat_cmp (λ (a b : ℕ × ℕ). ordering_then (nat_cmp a.0 b.0) (nat_cmp a.1 b.1)) exact_unsigned (exact_pairs nat_cmp nat_cmp exact_unsigned exact_unsigned) x y h
-
-chosen : (b : Bool) (o : Option Span) (P : Span → Type 0) (s : Span) → (b ≡ true → P s) → IfSome o P → IfSome (cond b (Some s) o) P
-chosen true o P s one other = one refl
-chosen false o P s one other = other
-
--- what holds of all that are known, and of one more
-pub known_more : (P : ℕ → ℕ → ℕ → Span → Type 0) (m n : KnownNodes) (depth at k : ℕ) (s : Span)
-    → Updates name_cmp m.spans n.spans (depth, (at, k)) (Some s) → ((d a i : ℕ) → IfSome (known m d a i) (P d a i)) → P depth at k s → (d a i : ℕ) → IfSome (known n d a i) (P d a i)
-known_more P m n depth p k s up all one d a i =
-    let key : ℕ × (ℕ × ℕ) = (depth, (p, k)) in
-    let q : ℕ × (ℕ × ℕ) = (d, (a, i)) in
-    let same : is_at (name_cmp key) q ≡ true → P d a i s = λ h. subst (λ (x : ℕ × (ℕ × ℕ)). P x.0 x.1.0 x.1.1 s) (same_name key q ((Equal-is (name_cmp key q)).0 h)) one in
-    subst (λ o. IfSome o (P d a i)) (sym (up.0 q)) (chosen (is_at (name_cmp key) q) (known m d a i) (P d a i) s same (all d a i))
-
-pub known_same : (m n : KnownNodes) (depth at k : ℕ) → IsUnchanged m.spans n.spans → known n depth at k ≡ known m depth at k
-known_same m n depth p k h = ap (lookup (is_at (name_cmp (depth, (p, k))))) h

@@ -1,6 +1,5 @@
 -- The datasets of a file, one after another.
 use Rattle.std.proofs.Common.{◌≡◌, ℕ, ◌+◌, ◌<◌, List, [], ◌∷◌, ◌++◌, length, map, get_or, drop, Result, Ok, Err, refl, sym, ◌∙◌, ap, append_assoc, arith}
-use Rattle.std.specs.Prelude.{flat_map}
 use Rattle.std.proofs.lemmas.List.{append-nil, drop_all}
 use Rattle.h5w_model.specs.Programs.{Prog, ret, eval, and_then}
 use Rattle.h5w_model.specs.Datasets.{Described, then_also}
@@ -8,6 +7,7 @@ use Rattle.h5w_model.specs.Tables.{each_of, format_limits}
 use Rattle.h5w_model.specs.Findings.{Used, Finding, Part, checked_dataset, checked_part, index_visit}
 use Rattle.h5w_model.specs.declared.root.Super.{Super}
 use Rattle.h5w_laws.proofs.ProgramLemmas.{eval_and_then}
+use Rattle.h5w_laws.proofs.SeveralLemmas.{flat_ranges}
 use Rattle.h5w_check.specs.Ranges.{after}
 use Rattle.h5w_check.specs.Roots.{dataset_after, part_after, parts_after}
 use Rattle.h5w_check.proofs.RangeLemmas.{next_from}
@@ -46,14 +46,11 @@ part_parts img s place old =
 abbrev rows_of : List Part → List ℕ
 rows_of ps = map (λ (p : Part). p.dataset.shape.rows) ps
 
-abbrev ranges_of : List Part → List Used
-ranges_of ps = flat_map (λ (p : Part). p.ranges) ps
-
 rest_given : (rows : List ℕ) (old : List Used) (p : Part) (r : Result (List Part) Finding)
     → parts_after rows old (then_also r (λ ps. Ok (p ∷ ps))) ≡ parts_after (rows ++ p.dataset.shape.rows ∷ []) (old ++ p.ranges) r
 rest_given rows old p (Ok ps) =
-    ap (λ (ns : List ℕ). Ok (ns, old ++ (p.ranges ++ ranges_of ps))) (sym (append_assoc rows (p.dataset.shape.rows ∷ []) (rows_of ps)))
-    ∙ ap (λ (us : List Used). Ok ((rows ++ p.dataset.shape.rows ∷ []) ++ rows_of ps, us)) (sym (append_assoc old p.ranges (ranges_of ps)))
+    ap (λ (ns : List ℕ). Ok (ns, old ++ (p.ranges ++ flat_ranges ps))) (sym (append_assoc rows (p.dataset.shape.rows ∷ []) (rows_of ps)))
+    ∙ ap (λ (us : List Used). Ok ((rows ++ p.dataset.shape.rows ∷ []) ++ rows_of ps, us)) (sym (append_assoc old p.ranges (flat_ranges ps)))
 rest_given rows old p (Err f) = refl
 
 first_given : (rows : List ℕ) (old : List Used) (r : Result Part Finding) (t : Result (List Part) Finding)

@@ -8,7 +8,7 @@ use Rattle.h5w_model.specs.Findings.{Used, Finding, found, bad_root, no_link, sa
 use Rattle.h5w_model.specs.declared.root.Super.{Super}
 use Rattle.h5w_model.specs.declared.refusal.ReadError.{ReadError}
 use Rattle.h5w_laws.proofs.ProgramLemmas.{eval_bind}
-use Rattle.h5w_found.specs.Linked.{Led, led_by}
+use Rattle.h5w_found.specs.Linked.{Led, led_by, LinksAre}
 use Rattle.h5w_check.specs.Headers.{finding_for}
 use Rattle.h5w_check.specs.Ranges.{after}
 use Rattle.h5w_check.specs.Roots.{met_again, names_after}
@@ -61,9 +61,6 @@ told_led : (root : ℕ) (led : Led) (places : List ℕ) (refused : Option ReadEr
     → told_by root (met_again [] led.0) led.0 led.1 ≡ told_by root met places refused
 told_led root led places refused met e m =
     ap (λ (l : Led). told_by root (met_again [] l.0) l.0 l.1) (sym e) ∙ ap (λ (o : Option ℕ). told_by root o places refused) (sym m)
-
-abbrev pub LinksAre : List (List ℕ) → List FoundMessage → List ℕ → Option ReadError → Type 0
-LinksAre names ms places refused = (places, refused) ≡ led_by (λ name. linked name ms) names
 
 pub links_met : (root : ℕ) (names : List (List ℕ)) (ms : List FoundMessage) (places : List ℕ) (refused : Option ReadError) (place : ℕ)
     → LinksAre names ms places refused → Some place ≡ met_again [] places → checked_links root [] names ms ≡ Err (found same_header place)

@@ -1,19 +1,19 @@
 -- Visits of the nodes of a tree, behind other ranges and keys.
-use Rattle.std.proofs.Common.{◌≡◌, ℕ, zero, suc, ◌+◌, ◌-◌, ◌*◌, ◌^◌, ◌<◌, ◌≤◌, Bool, true, false, cond, not, ◌&&◌, List, [], ◌∷◌, ◌++◌, length, map, get_or, drop, Option, Some, None, Result, Ok, Err, refl, sym, ◌∙◌, ap, subst, append_assoc, arith, inl, inr}
+use Rattle.std.proofs.Common.{◌≡◌, ℕ, suc, ◌+◌, ◌-◌, ◌*◌, ◌^◌, ◌<◌, ◌≤◌, Bool, true, false, cond, not, ◌&&◌, List, [], ◌∷◌, ◌++◌, length, map, get_or, drop, Option, Some, None, Result, Ok, Err, refl, sym, ◌∙◌, ap, subst, append_assoc, arith, inl, inr}
 use Rattle.std.specs.Prelude.{◌==◌, nat_lt, codes}
 use Rattle.std.specs.List.{All}
 use Rattle.std.proofs.lemmas.List.{append-nil, drop_all, drop-map, length-map}
-use Rattle.std.proofs.lemmas.List.Elements.{All-nil, All-cons, All-drop}
-use Rattle.std.proofs.lemmas.Bool.{leb-true, cases_Bool, cases_lt, eqb-true, eqb-false, eq-eqb, ne_eqb}
-use Rattle.h5w_model.specs.Numbers.{range, field, undefined}
+use Rattle.std.proofs.lemmas.List.Elements.{All-drop, All-head}
+use Rattle.std.proofs.lemmas.Bool.{cases_Bool, cases_lt, eqb-true, eqb-false, eq-eqb, ne_eqb}
+use Rattle.h5w_model.specs.Numbers.{range, undefined}
 use Rattle.h5w_model.specs.Blocks.{block_tests}
 use Rattle.h5w_model.specs.Programs.{Prog, ret, whole, eval, and_then}
-use Rattle.h5w_model.specs.Trees.{RecordFields, ChildFields, BtinFields, BthdFields, bthd_at, bthd_tests, bthd_fields, btlf_at, btin_at, btin_fields, bthd_len, btlf_len, btin_len, node_size, node_tests, child_tests, records_in, children_in, pointer_size, capacity_of}
+use Rattle.h5w_model.specs.Trees.{RecordFields, ChildFields, BtinFields, BthdFields, bthd_at, btlf_at, btin_at, btin_fields, bthd_len, btlf_len, btin_len, node_size, node_tests, child_tests, capacity_of}
 use Rattle.h5w_model.specs.Datasets.{then_also}
 use Rattle.h5w_model.specs.Findings.{Used, Finding, Visited, Under, found, chunk_ranges, are_rising, keys_of, joined, record_under, node_at, node_finding, children_under, node_visit, tree_visit, block_past_end, bad_index_header, bad_node, wrong_total, keys_not_rising}
 use Rattle.h5w_model.specs.declared.cell.Key.{Key}
 use Rattle.h5w_model.specs.declared.refusal.BlockFault.{BlockFault}
-use Rattle.h5w_model.proofs.CheckedLemmas.{AllPass, checked-passed}
+use Rattle.h5w_model.proofs.CheckedLemmas.{checked-passed}
 use Rattle.h5w_laws.proofs.ProgramLemmas.{eval_and_then}
 use Rattle.h5w_check.specs.Ranges.{after, put_after}
 use Rattle.h5w_check.specs.Blocks.{block_found, decoded}
@@ -23,6 +23,7 @@ use Rattle.h5w_check.specs.declared.span.Span.{Span}
 use Rattle.h5w_bt.specs.declared.records.Record.{Record}
 use Rattle.h5w_bt.specs.declared.children.Child.{Child}
 use Rattle.h5w_bt.specs.Parts.{record_of, child_of}
+use Rattle.h5w_laws.proofs.NodeLemmas.{length-records_in, length-children_in, children_few}
 use Rattle.h5w_check.proofs.RangeLemmas.{chunks_step, next_from}
 use Rattle.h5w_check.proofs.SpanLemmas.{and_assoc, span_assoc, span_more}
 use Rattle.h5w_check.proofs.ArrayLemmas.{run, run_block, run_decoded}
@@ -257,15 +258,12 @@ head_of cs items i d e h = subst (λ xs. drop i xs ≡ child_of (get_or items i 
 pub held_length : (cs : List ChildFields) (items : List Child) → map child_of items ≡ cs → length cs ≡ length items
 held_length cs items e = sym (ap length e) ∙ simp length-map
 
-all_head : (P : ChildFields → Type 0) (c : ChildFields) (cs : List ChildFields) → All P (c ∷ cs) → P c
-all_head P c cs h = h 0 c (omega arith)
-
 -- what holds of each child holds of the one that is held
 pub child_fits : (depth : ℕ) (cs : List ChildFields) (items : List Child) (i : ℕ) (d : Child) → map child_of items ≡ cs → i < length items
     → All (λ (c : ChildFields). c.records ≤ capacity_of depth) cs → (get_or items i d).records ≤ capacity_of depth
 child_fits depth cs items i d e h all =
     let P : ChildFields → Type 0 = λ c. c.records ≤ capacity_of depth in
-    all_head P (child_of (get_or items i d)) (drop (i + 1) cs) (subst (All P) (head_of cs items i d e h) (All-drop P i cs all))
+    All-head P (child_of (get_or items i d)) (drop (i + 1) cs) (subst (All P) (head_of cs items i d e h) (All-drop P i cs all))
 
 pub held_next : (end bytes i : ℕ) (d : Record) (rs : List Record) (old : List Used) (s : Span) → i < length rs
     → records_after end bytes old s (drop i (map record_of rs))
@@ -390,20 +388,6 @@ tree_node img old end bytes t =
 
 -- ---- What decoders say
 
-children_few : (b : List ℕ) (at depth n from : ℕ) → AllPass (child_tests b at depth n from) → All (λ (c : ChildFields). c.records ≤ capacity_of (depth - 1)) (children_in b depth n from)
-children_few b p depth zero from pass = All-nil (λ (c : ChildFields). c.records ≤ capacity_of (depth - 1))
-children_few b p depth (suc n) from pass =
-    All-cons (λ (c : ChildFields). c.records ≤ capacity_of (depth - 1)) _ (children_in b depth n (from + pointer_size depth)) (leb-true (field b (from + 8) 1) (capacity_of (depth - 1)) pass.0)
-    (children_few b p depth n (from + pointer_size depth) pass.1)
-
-length-records_in : (b : List ℕ) (n place : ℕ) → length (records_in b n place) ≡ n
-length-records_in b zero place = refl
-length-records_in b (suc n) place = ap suc (length-records_in b n (place + 24))
-
-length-children_in : (b : List ℕ) (depth n place : ℕ) → length (children_in b depth n place) ≡ n
-length-children_in b depth zero place = refl
-length-children_in b depth (suc n) place = ap suc (length-children_in b depth n (place + pointer_size depth))
-
 pub inner_formed : (b : List ℕ) (at n depth : ℕ) (t : BtinFields) → btin_at b at n depth ≡ Ok t → IsInner depth t
 inner_formed b p n depth t h =
     let fields = btin_fields b n depth in
@@ -412,17 +396,4 @@ inner_formed b p n depth t h =
     subst (IsInner depth) passed.1 (record {
       count = length-children_in b depth (n + 1) (6 + 24 * n) ∙ ap (λ k. k + 1) (sym (length-records_in b n 6));
       few = children_few b p depth (n + 1) (6 + 24 * n) passed.0.1.1.1.1.1;
-    })
-
-pub record IsRoot (t : BthdFields) : Type 0 where
-  pub shallow : t.depth ≤ 3
-  pub few : t.records ≤ capacity_of t.depth
-
-pub root_formed : (b : List ℕ) (at : ℕ) (t : BthdFields) → bthd_at b at ≡ Ok t → IsRoot t
-root_formed b p t h =
-    let passed = checked-passed (bthd_tests b p) (bthd_fields b) t h in
-    let pass = passed.0.1.1.1.1.1.1.1 in
-    subst IsRoot passed.1 (record {
-      shallow = leb-true (field b 12 2) 3 pass.0;
-      few = leb-true (field b 24 2) (capacity_of (field b 12 2)) pass.1.1.1.0;
     })

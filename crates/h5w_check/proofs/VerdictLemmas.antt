@@ -195,10 +195,6 @@ same_order : (rs qs : List Range) → HaveSameOrder rs qs → (k : ℕ) → filt
 unfolding at_place
 same_order rs qs h k = h k
 
-pub said_order : (rs qs : List Range) → ((k : ℕ) → filter (at_place k) rs ≡ filter (at_place k) qs) → HaveSameOrder rs qs
-unfolding at_place
-said_order rs qs h k = h k
-
 pub one_by_place : (rs qs : List Range) → HaveSameOrder rs qs → by_place (map used_of rs) ≡ by_place (map used_of qs)
 one_by_place rs qs h =
     sym (placed_held rs)

@@ -1,5 +1,5 @@
 -- Copies, rows with a pad, and blocks of rows: how long they are, and what stands where they stand.
-use Rattle.std.proofs.Common.{◌≡◌, ℕ, zero, suc, ◌+◌, ◌*◌, ◌<◌, ◌≤◌, List, [], ◌∷◌, ◌++◌, length, sym, refl, ap, ◌∙◌, subst, inr, arith, length-append}
+use Rattle.std.proofs.Common.{◌≡◌, ℕ, zero, suc, ◌+◌, ◌*◌, ◌<◌, ◌≤◌, List, [], ◌∷◌, ◌++◌, length, sym, ap, ◌∙◌, subst, inr, arith, length-append}
 use Rattle.std.proofs.lemmas.List.{append-nil}
 use Rattle.h5w_model.specs.Numbers.{range}
 use Rattle.h5w_model.specs.Images.{AllMiss, AllSized, Apart, At, image, pieces}
@@ -67,17 +67,9 @@ padded_row_there img place row pad t (suc n) long all there (suc k) few =
 
 -- ---- Blocks of rows
 
-pub writes_of-cons : (b : ℕ × List ℕ) (bs : List (ℕ × List ℕ)) → writes_of (b ∷ bs) ≡ pieces b.0 b.1 ++ writes_of bs
-unfolding writes_of
-writes_of-cons b bs = refl
-
 pub writes_of-one : (b : ℕ × List ℕ) → writes_of (b ∷ []) ≡ pieces b.0 b.1
 unfolding writes_of
 writes_of-one b = append-nil (pieces b.0 b.1)
-
-pub writes_of-none : writes_of [] ≡ []
-unfolding writes_of
-writes_of-none = refl
 
 -- blocks that each lie in a range
 abbrev pub BlocksIn : ℕ → ℕ → List (ℕ × List ℕ) → Type 0

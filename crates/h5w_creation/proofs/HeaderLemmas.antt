@@ -1,28 +1,19 @@
 -- How long the messages of a new file are.
-use Rattle.std.proofs.Common.{◌≡◌, ℕ, ◌+◌, ◌≤◌, leb, List, length, length-append, refl, ap, ◌∙◌, inl, inr, arith}
+use Rattle.std.proofs.Common.{◌≡◌, ℕ, ◌+◌, ◌≤◌, leb, List, length, ap, ◌∙◌, inl, inr, arith}
 use Rattle.h5w_model.specs.Numbers.{le}
 use Rattle.h5w_model.specs.Headers.{header_bytes, msgs_bytes, prefix_bytes}
-use Rattle.h5w_model.specs.Links.{link_bytes, link_info_bytes, group_info_bytes}
 use Rattle.h5w_model.specs.declared.message.Msg.{Msg}
-use Rattle.h5w_model.proofs.NumberLemmas.{length-le}
 use Rattle.h5w_model.proofs.HeaderLemmas.{length-header_bytes, length-msgs_bytes}
 use Rattle.h5w_model.proofs.HeaderRoundTrip.{prefix_bytes-large, prefix_bytes-small}
 use Rattle.std.proofs.lemmas.Bool.{cases_Bool}
+use Rattle.h5w_creation_laws.proofs.SizeLemmas.{length_link, length_infos}
 use Rattle.h5w_creation.specs.Headers.{links_to}
-
-pub length_link : (name : List ℕ) (place : ℕ) → length (link_bytes name place) ≡ 11 + length name
-unfolding le
-length_link name place = omega (arith, length-append name (le 8 place), length-le 8 place)
 
 -- messages are no longer than the header
 pub messages_short : (ms : List Msg) → length (header_bytes ms) ≤ 512 → length (msgs_bytes ms) ≤ 512
 messages_short ms h = omega (arith, length-header_bytes ms)
 
 -- ---- The root header
-
-length_infos : (length link_info_bytes ≡ 18) × (length group_info_bytes ≡ 2)
-unfolding le
-length_infos = (refl, refl)
 
 pub links_long : (name : List ℕ) (address : ℕ) → length (msgs_bytes (links_to name address)) ≡ 43 + length name
 links_long name address =

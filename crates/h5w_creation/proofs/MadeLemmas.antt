@@ -1,6 +1,5 @@
 -- The index of a new file: its pieces among the others, and that it rests once all are shown.
 use Rattle.std.proofs.Common.{◌≡◌, ℕ, List, [], ◌∷◌, ◌++◌, refl, sym, subst, ap, ◌∙◌}
-use Rattle.std.specs.Prelude.{map}
 use Rattle.h5w_model.specs.Images.{Holds, image}
 use Rattle.h5w_model.specs.Trees.{bthd_at, bthd_bytes, bthd_len}
 use Rattle.h5w_model.specs.declared.cell.IndexKind.{IndexKind}
@@ -13,18 +12,12 @@ use Rattle.h5w_tree_index_laws.proofs.TreeRestLemmas.{tree_begins}
 use Rattle.h5w_index.specs.Views.{IndexView, IsSound, an_array, a_tree}
 use Rattle.h5w_index.specs.Flushes.{Begins}
 use Rattle.h5w_index.proofs.BeginLemmas.{index_begins}
-use Rattle.h5w_creation_laws.specs.CreatedFiles.{CreatedFile, IsCreatable, block_place, block_write, created_moment, created_writes, empty_tree, header_block, index_blocks, index_place, root_block, super_block}
+use Rattle.h5w_creation_laws.specs.CreatedFiles.{CreatedFile, IsCreatable, block_place, created_moment, created_writes, empty_tree, header_block, index_blocks, index_place, root_block, super_block}
 use Rattle.h5w_creation_laws.proofs.CreatedLaws.{created_array, created_new}
 use Rattle.h5w_creation_laws.proofs.RootLemmas.{look_at}
 use Rattle.h5w_creation_laws.proofs.IndexLemmas.{tree_at}
 use Rattle.h5w_creation_laws.proofs.SizeLemmas.{tree_long}
-use Rattle.h5w_creation.specs.Made.{CreatedRests, IsNewIndex, index_writes}
-
--- the index's pieces and the three behind them are all
-pub all_writes : (k : IndexKind) (f : CreatedFile) → index_writes k (index_place f) (block_place f) ++ block_write (header_block f) ∷ block_write (root_block f) ∷ block_write (super_block f) ∷ []
-    ≡ map block_write (index_blocks k f ++ header_block f ∷ root_block f ∷ super_block f ∷ [])
-all_writes Array f = refl
-all_writes Tree f = refl
+use Rattle.h5w_creation.specs.Made.{CreatedRests, IsNewIndex}
 
 -- ---- The law
 

@@ -75,7 +75,7 @@ messages_alone f short =
     ∙ ap (λ (k : ℕ). Ok (placed k (root_messages f))) (prefix_long n (omega arith))
 
 -- of a header within 512 bytes what counts of the first look is its view, and that is chunk 0
-root_view-by : (b : List ℕ) (p : Prefix) → prefix_at b ≡ Ok p → p.total ≤ 512 → root_view b ≡ header_view b
+pub root_view-by : (b : List ℕ) (p : Prefix) → prefix_at b ≡ Ok p → p.total ≤ 512 → root_view b ≡ header_view b
 root_view-by b p h k = rw (h, root_view, le-ltb 512 p.total k) refl
 
 header_view-by : (b : List ℕ) (p : Prefix) → prefix_at b ≡ Ok p → p.total ≤ 512 → header_view b ≡ take p.total b

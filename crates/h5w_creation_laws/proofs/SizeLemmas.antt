@@ -145,3 +145,7 @@ fill_by_value v t bytes typed is = record {
   sized = subst (λ (o : Option (List ℕ)). IfSome o (λ bytes. length bytes ≡ t.size)) (sym is) (length-cell_bytes_of v t bytes is);
   value = ap (λ (o : Option (List ℕ)). fill_cell_value o t) is ∙ value_at-cell_bytes_of v t bytes typed is;
 }
+
+pub length_infos : (length link_info_bytes ≡ 18) × (length group_info_bytes ≡ 2)
+unfolding le
+length_infos = (refl, refl)

@@ -1,9 +1,10 @@
 -- The messages of any bytes begin in them, and each continuation names a block whole.
-use Rattle.std.proofs.Common.{◌≡◌, ℕ, zero, suc, ◌+◌, ◌-◌, ◌<◌, ◌≤◌, min, Bool, true, false, ◌&&◌, List, [], ◌∷◌, length, drop, Result, Ok, Err, Option, Some, None, ◌∙◌, ap, subst, ◌⊎◌, inl, inr, arith, ltb, length-take, length-drop}
+use Rattle.std.proofs.Common.{◌≡◌, ℕ, zero, suc, ◌+◌, ◌-◌, ◌<◌, ◌≤◌, min, Bool, true, false, ◌&&◌, List, [], ◌∷◌, length, drop, Result, Ok, Err, Option, Some, None, ◌∙◌, ap, subst, ◌⊎◌, inl, inr, arith, ltb, length-take, length-drop, ◌++◌, map, reverse}
 use Rattle.std.specs.Prelude.{◌==◌}
 use Rattle.std.specs.List.{All}
 use Rattle.std.proofs.lemmas.List.Elements.{All-nil, All-cons}
 use Rattle.std.proofs.lemmas.Bool.{cases_lt, cases_Bool, or_parts, ltb-false}
+use Rattle.std.proofs.lemmas.List.{reverse-append, map-append}
 use Rattle.h5w_model.specs.Numbers.{range}
 use Rattle.h5w_model.specs.Checked.{checked}
 use Rattle.h5w_model.specs.Headers.{and_then, prefix_at, prefix_tests, prefix_fields, header_at, header_tests, inside_of, messages_at, whole_block, inside_block, block_at, block_tests, msgs_in, msg_at, data_size, overruns, before_data, all_known, first_unknown, unless_refused}
@@ -12,6 +13,8 @@ use Rattle.h5w_model.specs.declared.refusal.HeaderError.{HeaderError}
 use Rattle.h5w_model.specs.declared.refusal.HeaderError.TheVariants.{OutOfMemory}
 use Rattle.h5w_model.proofs.HeaderLemmas.{msgs_in-gap, msgs_in-overrun, msgs_in-more}
 use Rattle.h5w_dataset.specs.Listed.{IsInside, OverrunBelow, Listed}
+use Rattle.h5w_dataset.specs.Founds.{found_of, stack, founds}
+use Rattle.h5w_dataset.specs.declared.found.FoundMessage.{FoundMessage}
 
 -- a continuation's data are long enough
 names_whole : (kind size : ℕ) → ((kind == 0x10) && ltb size 16) ≡ false → kind ≡ 16 → 16 ≤ size
@@ -128,3 +131,9 @@ listed_ok limit r said ms g h e = subst (Listed limit) e (listed_given limit r s
 
 pub listed_err : (limit : ℕ) (r said : Result (List Msg) HeaderError) (f : HeaderError) → (r ≡ said) ⊎ (r ≡ Err OutOfMemory) → Listed limit said → r ≡ Err f → OverrunBelow limit f
 listed_err limit r said f g h e = subst (Listed limit) e (listed_given limit r said g h)
+
+pub stack_push : (fs : List FoundMessage) (f : FoundMessage) → stack (fs ++ f ∷ []) ≡ found_of f ∷ stack fs
+stack_push fs f = ap reverse (map-append found_of fs (f ∷ [])) ∙ reverse-append (map found_of fs) (found_of f ∷ [])
+
+pub founds_push : (fs : List FoundMessage) (f : FoundMessage) → founds (fs ++ f ∷ []) ≡ founds fs ++ found_of f ∷ []
+founds_push fs f = map-append found_of fs (f ∷ [])

@@ -12,6 +12,7 @@ use Rattle.h5w_cache.specs.Blocks.{BlockView, numbered}
 use Rattle.h5w_cache.specs.Plans.{bytes_of, bytes_in}
 use Rattle.h5w_cache.specs.Stores.{Store, block_of, is_changed, is_listed, times, changed_to}
 use Rattle.h5w_cache.proofs.PlannedLemmas.{times-same, times-other}
+use Rattle.h5w_laws.proofs.ApartLemmas.{all_as}
 use Rattle.h5w_array_laws.specs.Parts.{Part, data_of, secondary_of, header, IsPart, number_of, slot_count, slots_from, holder, slot_offset, visit_order}
 use Rattle.h5w_array_laws.specs.ArrayStores.{IsArray, IsBlock, Names, block_at_part, address_in, slots_in, chunks_in, total, one_secondary, one_data, secondary_bytes, data_bytes}
 use Rattle.h5w_ea_index.specs.Steps.{IsHeld}
@@ -22,7 +23,7 @@ use Rattle.h5w_ea_index.proofs.PartLemmas.{number_decides, held_at}
 use Rattle.h5w_ea_index.proofs.StoreLemmas.{none-listed, set-same, set-other, set-cases}
 use Rattle.h5w_ea_index.proofs.ArrayLemmas.{Suits, changed_array, headed_changed, part_inside}
 use Rattle.h5w_ea_index.proofs.TouchLemmas.{touch_changed, touch_onward}
-use Rattle.h5w_ea_index.proofs.OrderLemmas.{visited_parts, ByRecursion-same}
+use Rattle.h5w_ea_index.proofs.OrderLemmas.{visited_parts}
 use Rattle.h5w_ea_index.proofs.StepLemmas.{IsLater, held_from, held_onward, map-from, behind_same}
 
 -- ---- The header
@@ -35,9 +36,6 @@ pub record IsHeader (v : Store) (b : BlockView) : Type 0 where
 
 header_block : (v : Store) (b : BlockView) → IsHeader v b → IsBlock header b
 header_block v b h = subst (λ o. IfSome o (IsBlock header)) h.is (h.array.each header tt)
-
-pub header_long : (v : Store) (b : BlockView) → IsArray v → block_at_part v header ≡ Some b → length b.bytes ≡ 72
-header_long v b a e = (subst (λ o. IfSome o (IsBlock header)) e (a.each header tt)).len
 
 header_suits : (v : Store) (b : BlockView) (i x : ℕ) → IsHeader v b → i < 6 → Suits v header (numbered (12 + 8 * i) x b)
 header_suits v b i x h lt =
@@ -222,7 +220,7 @@ counts_more weight v w k m p h q = (
 pub total_more : (weight : Part → ℕ) (v w : Store) (k : Part) → IsPart k → times (number_of k) (map number_of visit_order) ≡ 1 → IsMore v w k → total weight w ≡ total weight v + weight k
 total_more weight v w k p once h =
     let s = sum_once (weight_in weight w) (weight_in weight v) (number_of k) (weight k) visit_order
-    (ByRecursion-same IsPart (λ m. (number_of m ≡ number_of k → weight_in weight w m ≡ weight_in weight v m + weight k) × (number_of m ≢ number_of k → weight_in weight w m ≡ weight_in weight v m)) visit_order (λ m q. counts_more weight v w k m p h q) visited_parts) in
+    (all_as IsPart (λ m. (number_of m ≡ number_of k → weight_in weight w m ≡ weight_in weight v m + weight k) × (number_of m ≢ number_of k → weight_in weight w m ≡ weight_in weight v m)) visit_order (λ m q. counts_more weight v w k m p h q) visited_parts) in
     let o : times (number_of k) (map number_of visit_order) * weight k ≡ weight k = ap (λ c. c * weight k) once ∙ (let z : 1 * weight k ≡ weight k = omega arith in z) in
     omega arith
 

@@ -1,20 +1,17 @@
 -- The store of a new array.
-use Rattle.std.proofs.Common.{◌≡◌, ℕ, zero, suc, ◌+◌, ◌-◌, ◌*◌, ◌^◌, ◌<◌, ◌≤◌, List, [], ◌∷◌, ◌++◌, length, take, get_or, replicate, false, refl, sym, ap, subst, ◌∙◌, arith, length-take}
+use Rattle.std.proofs.Common.{◌≡◌, ℕ, zero, suc, ◌+◌, ◌-◌, ◌*◌, ◌^◌, ◌<◌, ◌≤◌, List, [], ◌∷◌, ◌++◌, length, take, get_or, replicate, refl, sym, ap, subst, ◌∙◌, arith, length-take}
 use Rattle.std.proofs.lemmas.List.{length-replicate, length-set, get_or-set_same, get_or-set_other}
 use Rattle.std.proofs.lemmas.List.Elements.{All-nil, All-cons}
 use Rattle.std.specs.Prelude.{Some, None}
 use Rattle.h5w_model.specs.Numbers.{undefined}
 use Rattle.h5w_cache.specs.Blocks.{BlockView, AreInside}
-use Rattle.h5w_cache.specs.Stores.{Store, block_of, place_of, grown, no_blocks, kept_under, is_changed, is_listed}
+use Rattle.h5w_cache.specs.Stores.{Store, block_of, place_of, grown, no_blocks, kept_under}
 use Rattle.h5w_cache.specs.declared.block.Link.{Link}
 use Rattle.h5w_array_laws.specs.ArrayStores.{IsCreated, created_header, created_index}
 use Rattle.h5w_array_laws.specs.ArrayImages.{StartsArray}
 use Rattle.h5w_array_laws.proofs.CreatedLemmas.{created_starts}
 use Rattle.h5w_ea_index.specs.Created.{IsBare, Keeps, links_to}
 use Rattle.h5w_ea_index.proofs.StoreLemmas.{set-same, set-other}
-
-pub none_changed : (v : Store) (n : ℕ) → v.changed ≡ [] → is_changed v n ≡ false
-none_changed v n e = ap (λ c. is_listed n c) e
 
 pub created_from : (at place numbers : ℕ) (top index : BlockView) (v u w : Store) → numbers ≡ 847 → IsBare numbers v → index ≡ created_index at → top ≡ created_header place → Keeps 845 index place v u → Keeps 846 top at u w → IsCreated at place w
 created_from at place numbers top index v u w count bare ei et a b =

@@ -16,9 +16,6 @@ use Rattle.h5w_ea_index.specs.Opened.{IsSound, refusal, refusal_of}
 
 -- ---- The front
 
-ends_at : (n : ℕ) → 6 ≤ n → n ≡ 0 → ⊥
-ends_at n h e = absurd (omega arith)
-
 front6 : (p q r s : ℕ) (b : List ℕ) → take 4 b ≡ p ∷ q ∷ r ∷ s ∷ [] → field b 4 1 ≡ 0 → field b 5 1 ≡ 0 → 6 ≤ length b → take 6 b ≡ p ∷ q ∷ r ∷ s ∷ 0 ∷ 0 ∷ []
 unfolding num
 front6 p q r s [] e f g h = absurd (omega arith)
@@ -72,7 +69,7 @@ enough a b h = grind (arith, nat_tests)
 is_byte : (b : List ℕ) (o v : ℕ) → (field b o 1 == v) ≡ true → field b o 1 ≡ v
 is_byte b o v h = grind (arith, nat_tests)
 
-refusal_none : {A : Type 0} (r : Result A BlockFault) → refusal r ≡ None → (a : A) × (r ≡ Ok a)
+pub refusal_none : {A : Type 0} (r : Result A BlockFault) → refusal r ≡ None → (a : A) × (r ≡ Ok a)
 refusal_none (Ok a) h = (a, refl)
 refusal_none (Err f) h = absurd (cc)
 

@@ -17,8 +17,8 @@ use Rattle.h5w_cache.specs.declared.block.Link.{Link}
 use Rattle.h5w_array_laws.specs.Parts.{Part, data_of, secondary_of, IsPart, number_of, links_of, links_from, offset_of}
 use Rattle.h5w_array_laws.specs.ArrayStores.{HasHead}
 use Rattle.h5w_array_laws.proofs.KeptLemmas.{begins_shorter}
+use Rattle.h5w_array_laws.proofs.FoundLemmas.{count_blocks}
 use Rattle.h5w_ea_index.specs.Fresh.{IsFresh}
-use Rattle.h5w_ea_index.proofs.PartLemmas.{length-data_blocks}
 
 -- ---- Bytes
 
@@ -104,7 +104,7 @@ fresh_secondary at s v p bytes links turn in' sealed =
       head = head;
       whole = ap is_sealed bytes ∙ is_sealed-sealed_block (front (codes "EASB") at o ++ number_bytes (replicate n undefined));
       empty = no_numbers v.bytes 18;
-      unnamed = ap (λ k. numbers_in v.bytes k 18) (length-data_blocks s) ∙ ap (λ l. numbers_in l n 18) bytes ∙ numbers-empty (codes "EASB") at o n refl ∙ ap (λ k. replicate k undefined) (sym (length-data_blocks s));
+      unnamed = ap (λ k. numbers_in v.bytes k 18) (count_blocks s) ∙ ap (λ l. numbers_in l n 18) bytes ∙ numbers-empty (codes "EASB") at o n refl ∙ ap (λ k. replicate k undefined) (sym (count_blocks s));
     }
 
 -- ---- Links

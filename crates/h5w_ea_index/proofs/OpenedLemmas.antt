@@ -2,7 +2,6 @@
 use Rattle.std.proofs.Common.{◌≡◌, ◌≢◌, inl, inr, ℕ, ◌+◌, ◌-◌, ◌^◌, ◌<◌, ◌≤◌, min, Bool, true, false, List, ◌++◌, length, Result, Ok, Err, refl, sym, ap, subst, ◌∙◌, arith}
 use Rattle.std.proofs.lemmas.Bool.{cases_eq}
 use Rattle.std.specs.Prelude.{Option, Some, None, IfSome, OnOk, codes}
-use Rattle.h5w_model.specs.Causes.{Rose}
 use Rattle.h5w_model.specs.Numbers.{field, range}
 use Rattle.h5w_model.specs.Images.{At}
 use Rattle.h5w_model.specs.Blocks.{block_tests}
@@ -79,14 +78,6 @@ loads_quiet {B} P S e looked quiet up h = record {
   looked = looked;
   cause = λ x. absurd (quiet (let y : e ≡ Failed = cc in y));
   damaged = λ img still. damaged_map e S (P img) (up img still) h;
-}
-
--- want of memory, or of the image
-pub loads_failed : {A B : Type 0} {v w : ImageView} (P : List ℕ → ℕ → BlockFault → Type 0) (e : OpenArrayError) → Looked v w → (as_error {B = A} e ≡ Err Failed → Rose v.faults w.faults) → IfDamaged e (λ a f. ⊥) → Loads {A = B} v w P (Err e)
-loads_failed {A} {B} P e looked cause h = record {
-  looked = looked;
-  cause = λ x. cause (same_error {A = A} {B = B} e x);
-  damaged = λ img still. damaged_map e (λ a f. ⊥) (P img) (λ a f none. absurd none) h;
 }
 
 -- ---- A block that was read

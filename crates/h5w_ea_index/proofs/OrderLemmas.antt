@@ -8,23 +8,16 @@ use Rattle.std.proofs.lemmas.List.Elements.{recursion_from_All}
 use Rattle.h5w_model.specs.Findings.{Used}
 use Rattle.h5w_cache.specs.Stores.{times, is_listed}
 use Rattle.h5w_cache.proofs.PlannedLemmas.{times-same, times-other}
+use Rattle.h5w_laws.proofs.ApartLemmas.{all_joined}
 use Rattle.h5w_array_laws.specs.Parts.{Part, index_block, IsPart, number_of, children, first_parts, second_parts, visit_order}
 use Rattle.h5w_ea_index.proofs.PartLemmas.{are_children}
 use Rattle.h5w_ea_index.proofs.StoreLemmas.{listed-none}
-
-pub ByRecursion-append : {A : Type 0} (P : A → Type 0) (xs ys : List A) → AllByRecursion P xs → AllByRecursion P ys → AllByRecursion P (xs ++ ys)
-ByRecursion-append P [] ys h g = g
-ByRecursion-append P (x ∷ xs) ys h g = (h.0, ByRecursion-append P xs ys h.1 g)
-
-pub ByRecursion-same : {A : Type 0} (P Q : A → Type 0) (xs : List A) → ((x : A) → P x → Q x) → AllByRecursion P xs → AllByRecursion Q xs
-ByRecursion-same P Q [] f h = tt
-ByRecursion-same P Q (x ∷ xs) f h = (f x h.0, ByRecursion-same P Q xs f h.1)
 
 -- a block and those that it names
 family_parts : (xs : List Part) → AllByRecursion IsPart xs → AllByRecursion IsPart (flat_map (λ k. k ∷ children k) xs)
 family_parts [] h = tt
 family_parts (x ∷ xs) h =
-    ByRecursion-append IsPart (x ∷ children x) (flat_map (λ k. k ∷ children k) xs)
+    all_joined IsPart (x ∷ children x) (flat_map (λ k. k ∷ children k) xs)
     (h.0, recursion_from_All IsPart (children x) (λ i d lt. (are_children x h.0 i d lt).part))
     (family_parts xs h.1)
 

@@ -1,6 +1,5 @@
 -- The table of an array's blocks: numbers, lengths, and which block names which.
 use Rattle.std.proofs.Common.{◌≡◌, ◌⊎◌, inl, inr, ℕ, zero, suc, ◌+◌, ◌-◌, ◌*◌, ◌<◌, ◌≤◌, [], ◌∷◌, ◌++◌, length, get_or, true, false, refl, sym, ap, subst, ◌∙◌, arith, length-append}
-use Rattle.std.proofs.lemmas.List.{length-map}
 use Rattle.std.proofs.lemmas.List.FromFn.{length-range_with_len, get_or-range_with_len}
 use Rattle.std.proofs.lemmas.List.Elements.{All-nil, All-cons, All-map, All-append, All-from_recursion}
 use Rattle.std.proofs.lemmas.Bool.{cases_lt}
@@ -11,7 +10,8 @@ use Rattle.h5w_model.specs.Numbers.{le}
 use Rattle.h5w_model.specs.Arrays.{super_block_of, slot_place_of, IsSlotPlace}
 use Rattle.h5w_model.proofs.NumberLemmas.{length-le}
 use Rattle.h5w_model.proofs.ArrayGeometry.{slot_place-stands, slot_place-super}
-use Rattle.h5w_array_laws.specs.Parts.{Part, data_of, secondary_of, index_block, header, IsPart, number_of, length_of, stays_in_place, children, data_blocks_of, first_parts, second_parts, names_from, parent, head_of, sign_of, offset_of, slot_count, slots_from, holder, holder_of, slot_offset}
+use Rattle.h5w_array_laws.specs.Parts.{Part, data_of, secondary_of, index_block, header, IsPart, number_of, length_of, stays_in_place, children, first_parts, second_parts, names_from, parent, head_of, sign_of, offset_of, slot_count, slots_from, holder, holder_of, slot_offset}
+use Rattle.h5w_array_laws.proofs.FoundLemmas.{count_blocks}
 
 -- ---- Numbers
 
@@ -67,13 +67,10 @@ copies_first header p e = absurd (cc)
 
 -- ---- Lengths
 
-pub length-data_blocks : (s : ℕ) → length (data_blocks_of s) ≡ (super_block_of s).blocks
-length-data_blocks s = length-map (range_with_len 0 (super_block_of s).blocks) (data_of s) ∙ length-range_with_len 0 (super_block_of s).blocks
-
 -- the addresses of the blocks that it names lie in front of its sum
 pub names_fit : (k : Part) → IsPart k → names_from k + 8 * length (children k) + 4 ≤ length_of k
 names_fit (data_of s b) p = omega arith
-names_fit (secondary_of s) p = let l = length-data_blocks s in omega arith
+names_fit (secondary_of s) p = let l = count_blocks s in omega arith
 names_fit index_block p = omega arith
 names_fit header p = omega arith
 

@@ -12,6 +12,7 @@ use Rattle.h5w_model.proofs.ArrayGeometry.{slot_place-stands}
 use Rattle.h5w_cache.specs.Blocks.{BlockView, numbered, with_number}
 use Rattle.h5w_cache.specs.Plans.{bytes_of, bytes_in}
 use Rattle.h5w_cache.specs.Stores.{Store, block_of, is_changed, is_listed, changed_to}
+use Rattle.h5w_laws.proofs.ApartLemmas.{all_as}
 use Rattle.h5w_visits.specs.Ranges.{chunk_at}
 use Rattle.h5w_array_laws.specs.Among.{AreAmong}
 use Rattle.h5w_array_laws.specs.Parts.{Part, data_of, index_block, IsPart, number_of, head_of, sign_of, children, names_from, slot_count, slots_from, holder, slot_offset, visit_order}
@@ -22,7 +23,7 @@ use Rattle.h5w_ea_index.proofs.ByteLemmas.{Off, length-with_number, field-with_n
 use Rattle.h5w_ea_index.proofs.PartLemmas.{number_decides, held_at, IsHeldAt, holder_low, holder_high, head_fits, sign_fits, slots_fit, slots_apart}
 use Rattle.h5w_ea_index.proofs.StoreLemmas.{none-listed, set-same, set-other, set-cases}
 use Rattle.h5w_ea_index.proofs.ArrayLemmas.{Suits, headed_changed, part_inside}
-use Rattle.h5w_ea_index.proofs.OrderLemmas.{visited_parts, visited_once, ByRecursion-same, only, only-once, none_of}
+use Rattle.h5w_ea_index.proofs.OrderLemmas.{visited_parts, visited_once, only, only-once, none_of}
 use Rattle.h5w_ea_index.proofs.StepLemmas.{IsLater, later_standing, later_stands}
 
 -- ---- Slots are apart
@@ -240,7 +241,7 @@ behind_after v i x b m bytes us slots =
     let rest : List Used = flat_map (ranges_of bytes v) visit_order in
     let each : AreAmong (flat_map (ranges_of bytes (with_set v i x b)) visit_order) (flat_map (only n us) visit_order ++ rest) =
     each-among (ranges_of bytes (with_set v i x b)) (only n us) (ranges_of bytes v) visit_order
-    (ByRecursion-same IsPart (λ k. AreAmong (ranges_of bytes (with_set v i x b) k) (only n us k ++ ranges_of bytes v k)) visit_order (λ k p. ranges_after v i x b m bytes us slots k p) visited_parts) in
+    (all_as IsPart (λ k. AreAmong (ranges_of bytes (with_set v i x b) k) (only n us k ++ ranges_of bytes v k)) visit_order (λ k p. ranges_after v i x b m bytes us slots k p) visited_parts) in
     let first : AreAmong (chunks_in bytes (slots_in (block_at_part (with_set v i x b) index_block) index_block)) (only n us index_block ++ own) = chunks_after v i x b m bytes us slots index_block tt in
     let all : AreAmong (behind_of bytes (with_set v i x b)) ((only n us index_block ++ flat_map (only n us) visit_order) ++ (own ++ rest)) =
     part_more (chunks_in bytes (slots_in (block_at_part (with_set v i x b) index_block) index_block)) (flat_map (ranges_of bytes (with_set v i x b)) visit_order) (only n us index_block) (flat_map (only n us) visit_order) own rest first each in

@@ -13,6 +13,7 @@ use Rattle.h5w_cache.specs.Blocks.{BlockView}
 use Rattle.h5w_cache.specs.Plans.{bytes_of, bytes_in}
 use Rattle.h5w_cache.specs.Stores.{Store, block_of, place_of, place_in, is_changed, is_listed, times, marked}
 use Rattle.h5w_cache.specs.StoreLaws.{IsPlaced, Standing, range_of}
+use Rattle.h5w_laws.proofs.ApartLemmas.{all_as}
 use Rattle.h5w_visits.specs.Ranges.{block_at}
 use Rattle.h5w_array_laws.specs.Parts.{Part, index_block, IsPart, number_of, length_of, slot_count, slots_from, holder, slot_offset, visit_order}
 use Rattle.h5w_array_laws.specs.ArrayStores.{HasHead, IsHeaded, block_at_part, place_at_part, header_place, address_in, map_of, slots_in, chunks_in, own_range, ranges_of, behind_of}
@@ -22,7 +23,7 @@ use Rattle.h5w_ea_index.proofs.ByteLemmas.{get_or-numbers_in}
 use Rattle.h5w_ea_index.proofs.PartLemmas.{number_decides, held_at, IsHeldAt}
 use Rattle.h5w_ea_index.proofs.StoreLemmas.{marks, marked-is, marks-self, marks-more, listed-none, none-listed, set-cases}
 use Rattle.h5w_ea_index.proofs.ArrayLemmas.{MayAdd, added, added_as, added-is, added_place, headed_added, part_inside}
-use Rattle.h5w_ea_index.proofs.OrderLemmas.{visited_parts, ByRecursion-same, flat_map-same}
+use Rattle.h5w_ea_index.proofs.OrderLemmas.{visited_parts, flat_map-same}
 
 -- ---- Places and what stands
 
@@ -65,9 +66,6 @@ later_stands v w l img st = record {
 
 pub held_from : (v w : Store) → IsLater v w → ((i : ℕ) → map_of w i ≡ map_of v i) → ((bytes : ℕ) → behind_of bytes w ≡ behind_of bytes v) → (IsHeaded v → IsHeaded w) → IsHeld v w
 held_from v w l m b h = record { map = m; behind = b; places = l.places; standing = later_standing v w l; stands = later_stands v w l; marks = l.marks; headed = h }
-
-pub held_same : (v : Store) → IsHeld v v
-held_same v = record { map = λ i. refl; behind = λ n. refl; places = λ n. refl; standing = λ s h. h; stands = λ img h. h; marks = λ n h. h; headed = λ h. h }
 
 pub held_onward : (u v w : Store) → IsHeld u v → IsHeld v w → IsHeld u w
 held_onward u v w a b = record {
@@ -131,7 +129,7 @@ ranges_same bytes v w k e f = λ i. own_same v w k e i ++ f i
 pub behind_same : (bytes : ℕ) (v w : Store) → ((k : Part) → IsPart k → place_at_part w k ≡ place_at_part v k) → ((k : Part) → IsPart k → chunks_in bytes (slots_in (block_at_part w k) k) ≡ chunks_in bytes (slots_in (block_at_part v k) k)) → behind_of bytes w ≡ behind_of bytes v
 behind_same bytes v w e f =
     let rest : flat_map (ranges_of bytes w) visit_order ≡ flat_map (ranges_of bytes v) visit_order =
-    flat_map-same (ranges_of bytes w) (ranges_of bytes v) visit_order (ByRecursion-same IsPart (λ k. ranges_of bytes w k ≡ ranges_of bytes v k) visit_order (λ k p. ranges_same bytes v w k (e k p) (f k p)) visited_parts) in
+    flat_map-same (ranges_of bytes w) (ranges_of bytes v) visit_order (all_as IsPart (λ k. ranges_of bytes w k ≡ ranges_of bytes v k) visit_order (λ k p. ranges_same bytes v w k (e k p) (f k p)) visited_parts) in
     λ i. f index_block tt i ++ rest i
 
 later_added : (v : Store) (k : Part) (b : BlockView) → MayAdd v k → IsLater v (added_as (number_of k) b v)

@@ -30,7 +30,7 @@ use Rattle.h5w_ea_index.proofs.ArrayLemmas.{Suits, MayAdd, added, added_as, adde
 use Rattle.h5w_ea_index.proofs.StepLemmas.{held_onward, held_marked, held_added, is_marked, is_added}
 use Rattle.h5w_ea_index.proofs.TouchLemmas.{own_way, touch_added, touch_changed, touch_marked, touch_more, touch_onward}
 use Rattle.h5w_ea_index.proofs.SetLemmas.{MaySet, with_set, set_from, set_suits, suits_set}
-use Rattle.h5w_ea_index.proofs.CountLemmas.{IsHeader, six_written, IsMore, total_more, total_same, data_once, secondary_once, below_that, secondaries_few, secondary_bytes_few, data_few, data_bytes_few, slots_few, counted_onward, header_long, holder_other}
+use Rattle.h5w_ea_index.proofs.CountLemmas.{IsHeader, six_written, IsMore, total_more, total_same, data_once, secondary_once, below_that, secondaries_few, secondary_bytes_few, data_few, data_bytes_few, slots_few, counted_onward, holder_other}
 
 -- ---- The six numbers
 
@@ -45,9 +45,6 @@ pub written_from : (v w : Store) (i x : ℕ) → IsArray v → is_changed v 846 
 written_from v w i x a h lt fits e =
     let k = header_kept v a h in
     subst (IsCounted (with_at i x (six v)) v) (sym (of_some (λ b. w ≡ changed_to 846 (numbered (12 + 8 * i) x b) v) (block_of v 846) k.0 k.1.is e)) (six_written v k.0 i x k.1 lt fits)
-
-pub number_inside : (v : Store) (b : BlockView) (i : ℕ) → IsArray v → block_of v 846 ≡ Some b → i < 6 → 12 + 8 * i + 8 ≤ length b.bytes
-number_inside v b i a e lt = let l = header_long v b a e in omega arith
 
 pub counted_two : (f g : List ℕ → List ℕ) (u v w : Store) → IsCounted (f (six u)) u v → IsCounted (g (six v)) v w → IsCounted (g (f (six u))) u w
 counted_two f g u v w a b = subst (λ l. IsCounted (g l) u w) a.six (counted_onward (f (six u)) (g (six v)) u v w a b)

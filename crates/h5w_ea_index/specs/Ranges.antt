@@ -1,9 +1,8 @@
 -- The ranges of the blocks of an array, in the order in which they are looked at.
 use Rattle.std.specs.Prelude.{ℕ, zero, suc, ◌==◌, List, [], ◌∷◌, ◌++◌, nat_lt, if◌then◌else◌}
-use Rattle.h5w_model.specs.Numbers.{undefined}
 use Rattle.h5w_model.specs.Arrays.{super_block_of}
-use Rattle.h5w_space.specs.Space.{extent}
 use Rattle.h5w_space.specs.declared.Extent.{Extent}
+use Rattle.h5w_space.specs.Ranges.{range_at}
 use Rattle.h5w_cache.specs.Stores.{Store}
 use Rattle.h5w_array_laws.specs.Parts.{Part, data_of, secondary_of, index_block, header, length_of}
 use Rattle.h5w_array_laws.specs.ArrayStores.{place_at_part}
@@ -13,10 +12,6 @@ use Rattle.h5w_ea_index.specs.Opened.{past}
 unfoldable pub each_below : {A : Type 0} → (ℕ → List A) → ℕ → List A
 each_below f zero = []
 each_below f (suc n) = each_below f n ++ f n
-
--- the range of so many bytes at a place, if it is one
-abbrev pub range_at : ℕ → ℕ → List Extent
-range_at place len = if place == undefined then [] else extent place len ∷ []
 
 abbrev pub range_of_part : Store → Part → List Extent
 range_of_part v k = range_at (place_at_part v k) (length_of k)

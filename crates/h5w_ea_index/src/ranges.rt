@@ -4,7 +4,8 @@ ghost use Rattle.std.specs.Prelude.{◌≡◌, ◌≤◌, ◌++◌, ℕ, IfOk, O
 ghost use Rattle.h5w_cache.specs.Stores.{place_of};
 ghost use Rattle.h5w_array_laws.specs.Parts.{IsPart};
 ghost use Rattle.h5w_ea_index.specs.Loading.{copied_part};
-ghost use Rattle.h5w_ea_index.specs.Ranges.{block_ranges, range_at, range_from, ranges_of_data, ranges_of_super_block};
+ghost use Rattle.h5w_ea_index.specs.Ranges.{block_ranges, range_from, ranges_of_data, ranges_of_super_block};
+ghost use Rattle.h5w_space.specs.Ranges.{range_at};
 
 use crate::copied::{Copied, len, number, past};
 use crate::load::{FIRST_SECONDARY, SUPER_BLOCKS};

@@ -2,7 +2,7 @@
 use Rattle.std.proofs.Common.{◌≡◌, ℕ, zero, suc, ◌-◌, Bool, true, false, cond, eqb, List, [], ◌∷◌, get_or, Result, Ok, refl, sym, ap, ◌∙◌}
 use Rattle.std.specs.Prelude.{replicate}
 use Rattle.h5w_model.specs.Numbers.{range, undefined}
-use Rattle.h5w_model.specs.Programs.{Prog, ret, stored, eval, visits, Same}
+use Rattle.h5w_model.specs.Programs.{ret, stored, eval, visits, Same}
 use Rattle.h5w_model.specs.Arrays.{EaibFields, eadb_at, place_of, super_block_of}
 use Rattle.h5w_model.specs.Datasets.{Described, then_also, refused_as}
 use Rattle.h5w_model.specs.Tables.{InPlace, in_array, in_place, data_block, data_slot, secondary_slot, super_block_of_first, address_behind}
@@ -11,20 +11,12 @@ use Rattle.h5w_model.specs.declared.cell.Place.{Place}
 use Rattle.h5w_model.specs.declared.cell.Place.TheVariants.{Index, Direct, Second}
 use Rattle.h5w_model.specs.declared.refusal.ReadError.{ReadError}
 use Rattle.h5w_model.specs.declared.refusal.ReadError.TheVariants.{Damaged}
+use Rattle.h5w_model.proofs.SlotLemmas.{slot_of}
 
-all_undefined : (n k : ℕ) → get_or (replicate n undefined) k undefined ≡ undefined
+pub all_undefined : (n k : ℕ) → get_or (replicate n undefined) k undefined ≡ undefined
 all_undefined zero k = refl
 all_undefined (suc n) zero = refl
 all_undefined (suc n) (suc k) = all_undefined n k
-
--- the slot at a place of the array
-abbrev slot_of : EaibFields → Place → Prog (Result ℕ ReadError)
-slot_of e p =
-    elim p [
-      | Index slot ↦ ret (Ok (get_or e.slots slot undefined))
-      | Direct block slot ↦ data_slot (get_or e.first block undefined) (super_block_of (super_block_of_first block)).slots slot
-      | Second sblock block slot ↦ secondary_slot (get_or e.second (sblock - 4) undefined) sblock block slot
-    ]
 
 no_blocks : (img : List ℕ) (e : EaibFields) (p : Place) → e.first ≡ replicate 6 undefined → e.second ≡ replicate 25 undefined → visits img (slot_of e p) ≡ []
 no_blocks img e (Index slot) first second = refl

@@ -1,5 +1,5 @@
 -- What a check of a file tells.
-use Rattle.std.proofs.Common.{◌≡◌, ◌≤◌, ℕ, true, ◌∷◌, ◌++◌, List, [], length, append_assoc, append-nil, Option, Some, None, Result, Ok, Err, refl, sym, ap, ◌∙◌, subst, arith}
+use Rattle.std.proofs.Common.{◌≡◌, ◌≤◌, ℕ, true, ◌∷◌, ◌++◌, List, [], length, append-nil, Option, Some, None, Result, Ok, Err, refl, sym, ap, ◌∙◌, subst, arith}
 use Rattle.std.specs.Prelude.{IfSome, IsSome, IsTrue, OnOk, codes, flat_map, option_map}
 use Rattle.h5w_text.specs.Replies.{spaced}
 use Rattle.h5w_text.specs.Table.{numbers_text}
@@ -9,6 +9,7 @@ use Rattle.h5w_model.specs.Tables.{format_limits}
 use Rattle.h5w_model.specs.Datasets.{refused_as}
 use Rattle.h5w_model.specs.Findings.{AllSummary, Finding, check_all, found, overlap}
 use Rattle.h5w_image.specs.View.{DiskState, DiskView, IsThere, Leaves, Looked, file}
+use Rattle.h5w_image.proofs.DiskLemmas.{rose_from}
 use Rattle.h5w_check.specs.Ran.{Tells}
 use Rattle.h5w_check.specs.Verdicts.{summary_of}
 use Rattle.h5w_check.specs.declared.error.Summary as checked
@@ -22,6 +23,7 @@ use Rattle.h5w_text.specs.declared.error.ErrorLine.{ErrorLine}
 use Rattle.h5w_text.specs.declared.error.ErrorLine.TheVariants as errors
 use Rattle.h5w_text.specs.declared.status.Status.{Status}
 use Rattle.h5w_text.specs.declared.status.Status.TheVariants as statuses
+use Rattle.h5w_batches.proofs.AnswerLemmas.{joined}
 use Rattle.h5w_files.specs.Images.{LeavesFiles, file_image, told_bytes}
 use Rattle.h5w_files.specs.Ends.{IsGivenBy, EndsWell}
 use Rattle.h5w_files.specs.Checks.{CheckEnds, ChecksTo, IsOfCheck, check_line, check_of, finding_line, valid_text}
@@ -81,9 +83,6 @@ by_file : (names : List (List ℕ)) (answer : Result AllSummary ErrorLine) (t : 
 by_file names answer None name h = tt
 by_file names answer (Some d) name h = subst (λ (o : Option (List ℕ)). IsGivenBy (check_of names o) answer) (sym h.1) h.2
 
-rose_from : (a b c : ℕ) → a ≤ b → Rose b c → Rose a c
-rose_from a b c low rose = omega arith
-
 -- the check of the image that a file is
 pub checks_valid : {u v w : DiskView} (r q : ℕ) (name other : List ℕ) (names : List (List ℕ)) (s : checked.Summary) → Leaves 0 u.told u v → IsThere v name
     → Looked (file_image r name v) (file_image q other w)
@@ -126,7 +125,7 @@ pub checks_whole : {v w : DiskView} {k l : SinkView} (name : List ℕ) (names : 
 checks_whole {v} {w} name names status e = completes w (check_of names) name status e (λ answer text c. c.0.exact) (λ answer text c. c.0.cause)
 
 -- memory was wanting before the file was looked at
-leaves_itself : (v : DiskView) → LeavesFiles v.told v v
+pub leaves_itself : (v : DiskView) → LeavesFiles v.told v v
 leaves_itself v = record { told = refl; faults = omega arith; through = refl }
 
 pub checks_nothing : {v : DiskView} {k l : SinkView} (name : List ℕ) (names : List (List ℕ)) (status : Status) → Said (error_text errors.Memory) statuses.Memory status k l → CheckEnds name names v v status k l
@@ -137,11 +136,8 @@ checks_nothing {v} name names status said = record {
   said = said;
 }
 
-part : (out mid name : List ℕ) (n : ℕ) → mid ≡ out ++ (name ++ flat_map spaced (n ∷ [])) → mid ≡ out ++ (name ++ spaced n)
+pub part : (out mid name : List ℕ) (n : ℕ) → mid ≡ out ++ (name ++ flat_map spaced (n ∷ [])) → mid ≡ out ++ (name ++ spaced n)
 part out mid name n e = e ∙ ap (λ x. out ++ (name ++ x)) (append-nil (spaced n))
-
-joined : (out one two x y : List ℕ) → one ≡ out ++ x → two ≡ one ++ y → two ≡ out ++ (x ++ y)
-joined out one two x y p q = q ∙ ap (λ l. l ++ y) p ∙ append_assoc out x y
 
 -- the five parts of the line of a valid file
 pub valid_parts : {T E : Type 0} (r : Result T E) (out a b c d e : List ℕ) (s : AllSummary) → a ≡ out ++ (codes "valid rows" ++ flat_map spaced s.rows) → b ≡ a ++ (codes " chunks" ++ flat_map spaced (s.chunks ∷ []))

@@ -3,7 +3,6 @@ use Rattle.std.proofs.Common.{◌≡◌, ◌⊎◌, ℕ, zero, suc, ◌-◌, ◌
 use Rattle.std.specs.Prelude.{IfSome, IfOk, IsSome, IfErr, OnOk, option_map}
 use Rattle.std.specs.Option.{unwrap_or}
 use Rattle.std.proofs.lemmas.Bool.{leb-true}
-use Rattle.h5w_model.specs.Causes.{Rose}
 use Rattle.h5w_model.specs.Checksum.{sealed_block}
 use Rattle.h5w_model.specs.Numbers.{field, le, num, range}
 use Rattle.h5w_model.specs.Superblock.{super_at, super_fields, super_tests}
@@ -12,6 +11,7 @@ use Rattle.h5w_model.proofs.CheckedLemmas.{checked-ok, checked-passed}
 use Rattle.h5w_model.proofs.ChecksumLemmas.{is_sealed-sealed_block}
 use Rattle.h5w_model.proofs.NumberLemmas.{num-one}
 use Rattle.h5w_image.specs.View.{DiskState, DiskView, IsThere, Leaves, FileGivesRange, file, put}
+use Rattle.h5w_image.proofs.DiskLemmas.{rose_from}
 use Rattle.h5w_text.specs.Errors.{error_text}
 use Rattle.h5w_text.specs.Says.{Said, SaidUnlessMemory}
 use Rattle.h5w_text.specs.Statuses.{status_of}
@@ -223,9 +223,6 @@ free_kind : (e : ErrorLine) → (e ≡ errors.Disk) ⊎ (e ≡ errors.Memory) �
 free_kind e (inl disk) = subst (λ x. IsOfClear x) (sym disk) tt
 free_kind e (inr memory) = subst (λ x. IsOfClear x) (sym memory) tt
 
-rose_after : (a b c : ℕ) → a ≤ b → Rose b c → Rose a c
-rose_after a b c low rose = omega arith
-
 pub clears_failed : {u v w : DiskView} (name bytes : List ℕ) (upgrade : Bool) (found : Clearing) (flags : ℕ) (e : ErrorLine) → FindsSuperblock name upgrade u v bytes (Ok found) → Puts name bytes flags v w (Err e) → ClearsTo name upgrade u w (Err e)
 clears_failed {u} {v} {w} name bytes upgrade found flags e p q = record {
   calm = tt;
@@ -237,7 +234,7 @@ clears_failed {u} {v} {w} name bytes upgrade found flags e p q = record {
   exact = any_told u.told (λ d. free_error e q.kinds (clears_of upgrade (file d name)));
   reads = reads_any name u.told (Err e);
   kinds = free_kind e q.kinds;
-  cause = λ failed. rose_after u.faults v.faults w.faults p.disk.faults (q.cause (let f : e ≡ errors.Disk = cc in ap Err f));
+  cause = λ failed. rose_from u.faults v.faults w.faults p.disk.faults (q.cause (let f : e ≡ errors.Disk = cc in ap Err f));
 }
   where
     same : (t : Option DiskState) → t ≡ option_map (after_clear name (Err e) u.faults) t

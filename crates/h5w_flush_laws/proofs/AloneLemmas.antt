@@ -1,11 +1,10 @@
 -- A flush of new rows whose chunks all have addresses.
-use Rattle.std.proofs.Common.{◌≡◌, ℕ, ◌≤◌, List, [], ◌∷◌, ◌++◌, length, Result, Ok, refl, sym, ◌∙◌, subst, arith, append-nil}
+use Rattle.std.proofs.Common.{◌≡◌, ℕ, ◌≤◌, List, [], ◌∷◌, ◌++◌, length, Ok, refl, sym, ◌∙◌, subst, arith, append-nil}
 use Rattle.h5w_model.specs.Images.{apply, image}
 use Rattle.h5w_model.specs.Programs.{eval}
 use Rattle.h5w_model.specs.Tables.{InPlace}
 use Rattle.h5w_model.specs.Findings.{chunk_bytes}
 use Rattle.h5w_model.specs.declared.cell.Key.{Key}
-use Rattle.h5w_model.specs.declared.refusal.ReadError.{ReadError}
 use Rattle.h5w_model.specs.declared.piece.Write.{Write}
 use Rattle.h5w_model.proofs.ImageLemmas.{apply-grows}
 use Rattle.h5w_visits.specs.Ranges.{AllEndBy}
@@ -22,9 +21,7 @@ use Rattle.h5w_flush_laws.specs.Flushes.{RowsAloneFlush}
 use Rattle.h5w_flush_laws.proofs.SpaceLemmas.{taken_laws}
 use Rattle.h5w_flush_laws.proofs.IndexLemmas.{BehindBy}
 use Rattle.h5w_flush_laws.proofs.FlushLemmas.{Seen, says_missed, seen_behind, seen_missed}
-
-one_answer : (p q : InPlace) → ◌≡◌ {A = Result InPlace ReadError} (Ok p) (Ok q) → p ≡ q
-one_answer p q h = cc
+use Rattle.h5w_flush_laws.proofs.KnownLaws.{one_answer}
 
 -- what the blocks in place say, and what stands behind them, after writes that are unseen
 pub record IndexHere (img : List ℕ) (m : Moment) (end : ℕ) (blocks : InPlace) (f : Key → ℕ) : Type 0 where

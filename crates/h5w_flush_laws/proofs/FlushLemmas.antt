@@ -31,7 +31,7 @@ use Rattle.h5w_steps.proofs.PlanLaws.{plan_leads}
 use Rattle.h5w_flush_laws.specs.Knowledge.{HeldMissed, Knows}
 use Rattle.h5w_flush_laws.proofs.SpaceLemmas.{meet_nowhere}
 use Rattle.h5w_flush_laws.specs.Spaces.{extent_of}
-use Rattle.h5w_flush_laws.specs.Parts.{Parts, fresh_of, block_writes, block_ranges, committed, flushed_to, copied, ended, AreEnded, SaysInPlace, EachSays, IsFlush}
+use Rattle.h5w_flush_laws.specs.Parts.{Parts, fresh_of, block_writes, block_ranges, committed, flushed_to, copied, ended, AreEnded, SaysInPlace, EachSays, IsFlush, AllUnseen}
 use Rattle.h5w_flush_laws.proofs.SpaceLemmas.{taken_disjoint}
 use Rattle.h5w_flush_laws.proofs.KeyLemmas.{table_behind, stay_defined, needed_asked, found_table}
 use Rattle.h5w_flush_laws.proofs.PartLemmas.{parts_among, parts_count, apart_kinds}
@@ -289,3 +289,7 @@ module _ (img name : List ℕ) (m : Moment) (old : Key → ℕ) (s t : Space) (f
       stays n is low =
           subst (λ (xs : List ℕ). StaysDefined (get_or xs n undefined) (get_or (map f.address (needed_keys m.dataset)) n undefined)) (sym is)
           (stay_defined m.dataset old f.address (needed_keys m.dataset) (needed_asked m.dataset few_now) i.index.kept n (subst (λ (xs : List ℕ). n < length xs) is low))
+
+pub unseen_miss : (m : Moment) (ws : List Write) (u : Used) → AllUnseen m ws → Among u (all_used m) → u.chunk ≡ false → AllMiss ws u.place u.len
+unseen_miss m [] u h a block = tt
+unseen_miss m (w ∷ ws) u h a block = (h.0.off_blocks u a block, unseen_miss m ws u h.1 a block)

@@ -10,11 +10,10 @@ use Rattle.h5w_model.specs.Findings.{Used, chunk_bytes}
 use Rattle.h5w_model.specs.Prefixed.{StaysDefined}
 use Rattle.h5w_model.specs.declared.cell.Key.{Key}
 use Rattle.h5w_model.specs.declared.piece.Write.{Write}
-use Rattle.h5w_visits.specs.Ranges.{AllWithin, Among, AllAmong, AllEndBy, AreApart, Disjoint, MissesBlocks, chunk_at}
-use Rattle.h5w_visits.specs.Indexes.{IsNamed, IsBehind, IsAnswered, behind_visit}
+use Rattle.h5w_visits.specs.Ranges.{AllWithin, Among, AllAmong, AllEndBy, AreApart, Disjoint, MissesBlocks}
+use Rattle.h5w_visits.specs.Indexes.{IsBehind, IsAnswered, behind_visit}
 use Rattle.h5w_visits.proofs.RangeLemmas.{among_left, among_right, among_split}
 use Rattle.h5w_visits.proofs.IndexLaws.{behind_missed}
-use Rattle.h5w_visits.proofs.NeededLaws.{one_address}
 use Rattle.h5w_steps.specs.Moments.{Moment, all_used, Represents, HasCells}
 use Rattle.h5w_steps.specs.Steps.{LiesIn, OffAll, Clear, Step}
 use Rattle.h5w_steps.proofs.PartLemmas.{apart_sym}
@@ -39,14 +38,6 @@ behind_of_other img end d e blocks behind same bytes b = record {
   ends = b.ends;
   some = λ h. b.some (subst (λ n. 0 < n) bytes h);
 }
-
--- a defined address by the map is a chunk
-pub chunk_behind : (img : List ℕ) (end : ℕ) (d : Described) (blocks : InPlace) (behind : List Used) (f : Key → ℕ) → IsBehind img end d blocks behind → AnswersBy img d blocks f
-    → (key : Key) → IsNamed d key → f key ≢ undefined → Among (chunk_at (f key) (chunk_bytes d)) behind
-chunk_behind img end d blocks behind f b a key n defined =
-    let known = b.answered key n in
-    let same : known.address ≡ f key = one_address known.address (f key) (sym known.is ∙ a key n) in
-    subst (λ x. x ≢ undefined → Among (chunk_at x (chunk_bytes d)) behind) same known.chunk defined
 
 -- A write that misses its ranges leaves it and each key's address.
 pub record BehindBy (img : List ℕ) (end : ℕ) (d : Described) (blocks : InPlace) (behind : List Used) (f : Key → ℕ) : Type 0 where

@@ -32,7 +32,7 @@ use Rattle.h5w_flush_laws.proofs.EarlyLemmas.{header_kept, unseen_stage, fresh_u
 
 -- ---- The index's map
 
-one_answer : (p q : InPlace) → ◌≡◌ {A = Result InPlace ReadError} (Ok p) (Ok q) → p ≡ q
+pub one_answer : (p q : InPlace) → ◌≡◌ {A = Result InPlace ReadError} (Ok p) (Ok q) → p ≡ q
 one_answer p q h = cc
 
 pub answers_of : (img : List ℕ) (end : ℕ) (d : Described) (fixed behind : List Used) (f : Key → ℕ) → (i : IsIndex img end d fixed behind) → IsMap img d f → AnswersBy img d i.blocks f

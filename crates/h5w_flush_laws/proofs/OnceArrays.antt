@@ -18,10 +18,12 @@ use Rattle.h5w_model.specs.declared.refusal.ReadError.TheVariants.{Damaged}
 use Rattle.h5w_laws.proofs.ResultLemmas.{fails, then_ok, choice_ok}
 use Rattle.h5w_laws.proofs.ReachLemmas.{IsNear, near_place}
 use Rattle.h5w_model.proofs.ArrayGeometry.{slot_place-stands}
+use Rattle.h5w_model.proofs.SlotLemmas.{slot_of}
+use Rattle.h5w_laws.proofs.EndLemmas.{ranges_are, same_ranges}
 use Rattle.h5w_visits.specs.Ranges.{Among, AreApart, Disjoint, block_at, chunk_at}
 use Rattle.h5w_visits.proofs.RangeLemmas.{among_left, among_right}
 use Rattle.h5w_visits.proofs.VisitTells.{both_parts, block_parts}
-use Rattle.h5w_visits.proofs.ArrayVisits.{one_more, ranges_are, same_ranges, by_place}
+use Rattle.h5w_visits.proofs.ArrayVisits.{one_more, by_place}
 use Rattle.h5w_flush_laws.proofs.PartLemmas.{meets_itself}
 
 -- ---- A range that is there twice
@@ -281,15 +283,6 @@ seconds_apart img end bytes sblock (a ∷ rest) us h = go (seconds_apart img end
         (λ x p. ap (λ j. answer img (secondary_slot (get_or rest x.0 undefined) j x.1.0 x.1.1)) (let e : sblock + suc x.0 ≡ (sblock + 1) + x.0 = omega arith in e)) more)))
 
 -- ---- All slots of an array
-
--- the slot at a place
-abbrev pub slot_of : EaibFields → Place → Prog (Result ℕ ReadError)
-slot_of e p =
-    elim p [
-      | Index slot ↦ ret (Ok (get_or e.slots slot undefined))
-      | Direct block slot ↦ data_slot (get_or e.first block undefined) (super_block_of (super_block_of_first block)).slots slot
-      | Second sblock block slot ↦ secondary_slot (get_or e.second (sblock - 4) undefined) sblock block slot
-    ]
 
 pub slots_apart : (img : List ℕ) (end bytes : ℕ) (e : EaibFields) (us : List Used)
     → eval img (both (ret (chunk_ranges end bytes e.slots)) (both (first_visits end bytes 0 e.first) (second_visits end bytes 4 e.second))) ≡ Ok us → Sep {K = Place} bytes us IsNear (λ p. answer img (slot_of e p))

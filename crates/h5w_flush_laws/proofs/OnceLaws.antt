@@ -15,9 +15,9 @@ use Rattle.h5w_model.specs.declared.cell.IndexKind.TheVariants.{Array, Tree}
 use Rattle.h5w_model.specs.declared.refusal.ReadError.{ReadError}
 use Rattle.h5w_chunks.proofs.KeyLemmas.{array_keys}
 use Rattle.h5w_laws.proofs.ResultLemmas.{and_then_ok}
+use Rattle.h5w_laws.proofs.EndLemmas.{same_ranges}
 use Rattle.h5w_visits.specs.Ranges.{Disjoint, chunk_at}
 use Rattle.h5w_visits.specs.Indexes.{behind_visit}
-use Rattle.h5w_visits.proofs.ArrayVisits.{same_ranges}
 use Rattle.h5w_visits.proofs.IndexVisits.{tree_read}
 use Rattle.h5w_steps.proofs.MomentLemmas.{parts_of}
 use Rattle.h5w_flush_laws.specs.Knowledge.{AnswersBy, FileOnce}
@@ -26,9 +26,6 @@ use Rattle.h5w_flush_laws.proofs.OnceArrays.{Sep, Always, answer, address_in, ar
 use Rattle.h5w_flush_laws.proofs.OnceTrees.{node_apart}
 
 -- ---- The kind of index that blocks in place are of
-
-is_of : InPlace → Result InPlace ReadError
-is_of p = Ok p
 
 array_kind : (img : List ℕ) (d : Described) (e : EaibFields) → eval img (in_place d) ≡ Ok (in_array e) → d.layout.index ≡ Array
 array_kind img d e h = by (d.layout.address == undefined) d.layout.index h

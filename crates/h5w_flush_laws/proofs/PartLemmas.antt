@@ -5,13 +5,7 @@ use Rattle.h5w_visits.specs.Ranges.{Among, AllAmong, AreApart, Disjoint}
 use Rattle.h5w_visits.proofs.RangeLemmas.{among_left, among_right, among_split}
 use Rattle.h5w_steps.specs.Counts.{count_at}
 use Rattle.h5w_steps.specs.Moments.{Moment, all_used}
-use Rattle.h5w_steps.specs.Steps.{OffAll, Clear}
-use Rattle.h5w_steps.proofs.PartLemmas.{disjoint_two, disjoint_apart, apart_sym}
-use Rattle.h5w_steps.proofs.MomentLemmas.{in_behind, parts_of}
-
-pub count_append : (p : ℕ) (us vs : List Used) → count_at p (us ++ vs) ≡ count_at p us + count_at p vs
-count_append p [] vs = omega arith
-count_append p (u ∷ us) vs = omega (arith, count_append p us vs)
+use Rattle.h5w_steps.proofs.PartLemmas.{disjoint_two, disjoint_apart, count_joined}
 
 -- ---- All ranges after a change of the index
 
@@ -45,12 +39,12 @@ parts_count root header index new fresh p few =
     omega (
       arith,
       few,
-      count_append p fresh index,
-      count_append p root (header ++ new),
-      count_append p header new,
-      count_append p fresh (all_parts root header index),
-      count_append p root (header ++ index),
-      count_append p header index,
+      count_joined p fresh index,
+      count_joined p root (header ++ new),
+      count_joined p header new,
+      count_joined p fresh (all_parts root header index),
+      count_joined p root (header ++ index),
+      count_joined p header index,
     )
 
 -- fresh ranges are apart from those of the file

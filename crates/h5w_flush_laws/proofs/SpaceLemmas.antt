@@ -10,6 +10,7 @@ use Rattle.h5w_visits.proofs.RangeLemmas.{among_left, among_right, among_split}
 use Rattle.h5w_steps.proofs.PartLemmas.{disjoint_some}
 use Rattle.h5w_space.specs.Space.{Space, IsLive, Apart, TakesPlace, TakesFree, TakesEnd, extent}
 use Rattle.h5w_space.specs.declared.Extent.{Extent}
+use Rattle.h5w_space.proofs.Sound.{Apart-sym}
 use Rattle.h5w_cache.specs.Blocks.{BlockView}
 use Rattle.h5w_cache.specs.Plans.{Took, Placed, Retires, AreRetired, AreMoves, stays}
 use Rattle.h5w_cache.specs.StoreLaws.{IsLeft}
@@ -29,9 +30,6 @@ meet_nowhere u v some any apart = go (cases_lt v.place (u.place + u.len))
 pub have_no_byte : (u v : Used) → AreApart u v → Apart (extent_of u) (extent_of v)
 have_no_byte u v (inl h) = omega arith
 have_no_byte u v (inr h) = omega arith
-
-pub apart_back : (r s : Extent) → Apart r s → Apart s r
-apart_back r s h = omega arith
 
 -- ---- Ranges that do not meet
 
@@ -108,7 +106,7 @@ none_taken s t same_end same_free same_retired = record {
 
 joined : (s t v : Space) (us vs : List Used) → Taken s us t → Taken t vs v → Taken s (us ++ vs) v
 joined s t v us vs k l = record {
-  apart = disjoint_joined us vs k.apart l.apart (λ u w a b. meet_nowhere u w (disjoint_some us k.apart u a) (disjoint_some vs l.apart w b) (apart_back (extent_of w) (extent_of u) (l.off_live w (extent_of u) b (k.live u a))));
+  apart = disjoint_joined us vs k.apart l.apart (λ u w a b. meet_nowhere u w (disjoint_some us k.apart u a) (disjoint_some vs l.apart w b) (Apart-sym (extent_of w) (extent_of u) (l.off_live w (extent_of u) b (k.live u a))));
   off_live = λ u x a live. off u x live (among_split u us vs a);
   live = live_joined v us vs (λ u a. l.stays_live (extent_of u) (k.live u a)) l.live;
   stays_live = λ x live. l.stays_live x (k.stays_live x live);
@@ -134,7 +132,7 @@ taken_laws = record { one = one; none_taken = none_taken; joined = joined }
 
 -- ---- Moves
 
-took : (b : Bool) (old len : ℕ) (s t : Space) (new : ℕ) → b ≡ false → Placed b old len s t new → Took s t (extent new len)
+pub took : (b : Bool) (old len : ℕ) (s t : Space) (new : ℕ) → b ≡ false → Placed b old len s t new → Took s t (extent new len)
 took false old len s t new e p = p
 took true old len s t new e p = absurd cc
 
@@ -185,7 +183,7 @@ one_let_go P s m t p (inl r) = (
     stays_live = λ x l off. subst (λ (y : Space). IsLive y x) (sym r.1) (record {
       within = l.within;
       off_free = l.off_free;
-      off_retired = All-append (Apart x) s.retired (extent m.old m.len ∷ []) l.off_retired (All-cons (Apart x) (extent m.old m.len) [] (apart_back (extent m.old m.len) x (off (block_at m.old m.len) (inl refl))) (All-nil (Apart x)));
+      off_retired = All-append (Apart x) s.retired (extent m.old m.len ∷ []) l.off_retired (All-cons (Apart x) (extent m.old m.len) [] (Apart-sym (extent m.old m.len) x (off (block_at m.old m.len) (inl refl))) (All-nil (Apart x)));
     });
     end = ap (λ (y : Space). y.end) r.1;
   },

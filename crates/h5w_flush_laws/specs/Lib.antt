@@ -5,3 +5,4 @@ pub mod Rows
 pub mod Flushes
 pub mod Copies
 pub mod EarlyRows
+pub mod Chunks

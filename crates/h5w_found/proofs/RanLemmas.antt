@@ -66,15 +66,6 @@ ran_stop {A = A} {B = B} {k = k} {v = v} {w = w} p e r one joined = record {
   exact = λ img still. stops_along k (p img) (r img) e (joined img) (one.exact img still);
 }
 
--- nothing was looked at
-pub ran_told : {B R E : Type 0} {k : Errors R E} {v : ImageView} (q : Result B R) (r : List ℕ → Result B R) (answer : Result B E)
-    → Told k q answer → ((img : List ℕ) → r img ≡ q) → Ran k v v r answer
-ran_told {B = B} {k = k} {v = v} q r answer told joined = record {
-  looked = looked_itself v;
-  cause = λ e. absurd (told.quiet e);
-  exact = λ img still. tells_along k q (r img) answer (joined img) told.exact;
-}
-
 -- one call answered, and then what looks at no image was refused
 pub ran_refused : {A B C R E : Type 0} {k : Errors R E} {v w : ImageView} (p : List ℕ → Result A R) (a : A) (q : Result C R) (e : E) (r : List ℕ → Result B R)
     → Ran k v w p (Ok a) → Told k q (Err e) → ((img : List ℕ) (f : R) → p img ≡ Ok a → q ≡ Err f → r img ≡ Err f) → Ran k v w r (Err e)
@@ -159,11 +150,6 @@ ran_then_stop {A = A} {B = B} {C = C} {k = k} {v = v} {w = w} {x = x} p a q e r 
   cause = λ h. later v.faults w.faults x.faults one.looked.faults (two.cause (same_error {A = C} {B = B} e k.failed h));
   exact = λ img still. stops_along k (q img) (r img) e (λ f h. joined img f (one.exact img still) h) (two.exact img (still_on img one.looked still));
 }
-
--- what is no answer is a refusal
-pub no_answer : {A E : Type 0} (r : Result A E) → ((x : A) → r ≡ Ok x → ⊥) → (e : E) × (r ≡ Err e)
-no_answer (Ok x) h = absurd (h x refl)
-no_answer (Err e) h = (e, refl)
 
 -- an answer that goes on with its value
 pub told_map : {A B R E : Type 0} {k : Errors R E} (given : Result A R) (r : Result A E) (f : A → B) → Told k given r → Told k (then_also given (λ x. Ok (f x))) (seen f r)

@@ -1,7 +1,6 @@
 -- The messages of a header, one after another.
-use Rattle.std.proofs.Common.{◌≡◌, ℕ, zero, suc, ◌-◌, ◌<◌, ◌≤◌, ◌⊎◌, inl, inr, Bool, true, false, cond, ltb, List, [], ◌∷◌, ◌++◌, length, map, reverse, Some, None, Result, Ok, Err, refl, sym, ◌∙◌, ap, arith}
-use Rattle.std.proofs.lemmas.List.{reverse-append, map-append}
-use Rattle.std.proofs.lemmas.Bool.{lt-ltb, le-ltb, ne_eqb}
+use Rattle.std.proofs.Common.{◌≡◌, ℕ, zero, suc, ◌-◌, ◌<◌, ◌≤◌, ◌⊎◌, inl, inr, Bool, true, false, cond, ltb, List, [], ◌∷◌, ◌++◌, length, Some, None, Result, Ok, Err, refl, sym, ◌∙◌, ap, arith}
+use Rattle.std.proofs.lemmas.Bool.{le-ltb, ne_eqb}
 use Rattle.h5w_model.specs.Numbers.{range}
 use Rattle.h5w_model.specs.Programs.{Prog, ret, whole, eval}
 use Rattle.h5w_model.specs.Headers.{block_at, messages_at}
@@ -10,7 +9,6 @@ use Rattle.h5w_model.specs.Datasets as model
 use Rattle.h5w_model.specs.declared.message.Msg.{Msg}
 use Rattle.h5w_model.specs.declared.message.Prefix.{Prefix}
 use Rattle.h5w_model.specs.declared.refusal.ReadError.{ReadError}
-use Rattle.h5w_model.specs.declared.refusal.ReadError.TheVariants.{Header}
 use Rattle.h5w_model.specs.declared.refusal.HeaderError.{HeaderError}
 use Rattle.h5w_model.specs.declared.refusal.HeaderError.TheVariants as header_errors
 use Rattle.h5w_found.specs.Ran.{Told, seen}
@@ -18,21 +16,9 @@ use Rattle.h5w_found.specs.Errors.{IsFindKind, find_errors, refused_header}
 use Rattle.h5w_found.specs.declared.error.FindError.TheVariants.{Refused}
 use Rattle.h5w_found.specs.Walks.{known_by, block_for, walk_for, from_chunk_0_for}
 use Rattle.h5w_dataset.specs.Founds.{found_of, founds, stack}
-use Rattle.h5w_found.specs.Headers.{ranges_of, range_of, Visit, Passed, block_before, entered}
+use Rattle.h5w_found.specs.Headers.{Visit, Passed, block_before, entered}
 use Rattle.h5w_dataset.specs.declared.found.FoundMessage.{FoundMessage}
-use Rattle.h5w_found.specs.declared.walk.Extent.{Extent}
-
--- ---- Lists
-
-pub stack_push : (fs : List FoundMessage) (f : FoundMessage) → stack (fs ++ f ∷ []) ≡ found_of f ∷ stack fs
-stack_push fs f = ap reverse (map-append found_of fs (f ∷ [])) ∙ reverse-append (map found_of fs) (found_of f ∷ [])
-
-pub founds_push : (fs : List FoundMessage) (f : FoundMessage) → founds (fs ++ f ∷ []) ≡ founds fs ++ found_of f ∷ []
-founds_push fs f = map-append found_of fs (f ∷ [])
-
-pub empty : {A : Type 0} (xs : List A) → length xs ≡ 0 → xs ≡ []
-empty [] e = refl
-empty (x ∷ xs) e = absurd (omega arith)
+use Rattle.h5w_dataset.proofs.ListedLemmas.{stack_push, founds_push}
 
 -- ---- Up to a continuation
 
@@ -54,11 +40,6 @@ pub walk_done : (img : List ℕ) (writes : Bool) (more h : ℕ) (t : Bool) (v : 
     → eval img (walk_for writes more h t v done ms) ≡ Ok (record { messages = now; ranges = v })
 walk_done img writes zero h t v done ms now rest passed = ap (λ p. eval img p) (passed _ v)
 walk_done img writes (suc more) h t v done ms now rest passed = ap (λ p. eval img p) (passed _ v)
-
--- no block more may come
-pub walk_full : (img : List ℕ) (writes : Bool) (h : ℕ) (t : Bool) (v : List Range) (done ms now rest : List model.FoundMessage) (m : FoundMessage) → Passed (Some m) done ms now rest
-    → eval img (walk_for writes 0 h t v done ms) ≡ Err (Header h header_errors.Continuations)
-walk_full img writes h t v done ms now rest m passed = ap (λ p. eval img p) (passed _ v)
 
 -- what is left after a block
 abbrev pub walk_on : Bool → ℕ → ℕ → Bool → List model.FoundMessage → List ℕ → List model.FoundMessage × List Range → Result HeaderFields ReadError
@@ -133,30 +114,12 @@ header_kind place header_errors.Continuations = tt
 pub told_refused : {B : Type 0} (given : Result B ReadError) (e : ReadError) → given ≡ Err e → Told find_errors given (Err (Refused e))
 told_refused given e h = record { exact = h; quiet = λ g. absurd cc }
 
--- what a decoder answered is what is said, where it was not want of memory
-pub gives_ok : (r said : Result (List Msg) HeaderError) (ms : List Msg) → (r ≡ said) ⊎ (r ≡ Err header_errors.OutOfMemory) → r ≡ Ok ms → said ≡ Ok ms
-gives_ok r said ms (inl e) h = sym e ∙ h
-gives_ok r said ms (inr e) h = absurd cc
-
 pub gives_err : (r said : Result (List Msg) HeaderError) (f : HeaderError) → (r ≡ said) ⊎ (r ≡ Err header_errors.OutOfMemory) → r ≡ Err f → (said ≡ Err f) ⊎ (f ≡ header_errors.OutOfMemory)
 gives_err r said f (inl e) h = inl (sym e ∙ h)
 gives_err r said f (inr e) h = inr cc
 
 before : List model.FoundMessage → Result (List model.FoundMessage) ReadError → Result (List model.FoundMessage) ReadError
 before next r = elim r [ Ok inside ↦ Ok (inside ++ next) | Err e ↦ Err e ]
-
-pub before_cut : (writes t : Bool) (p len : ℕ) (b : List ℕ) (next : List model.FoundMessage) → length b < len → block_before writes t p len b next ≡ Err (header_refusal p (header_errors.Short len (length b)))
-unfolding before
-before_cut writes t p len b next short =
-    let said : block_for writes t p len b ≡ Err (header_refusal p (header_errors.Short len (length b))) = rw (lt-ltb (length b) len short) refl in
-    ap (before next) said
-
-pub before_ok : (writes t : Bool) (p len : ℕ) (b : List ℕ) (next : List model.FoundMessage) (inside : List Msg) → len ≤ length b → known_by writes (block_at t b) ≡ Ok inside
-    → block_before writes t p len b next ≡ Ok (found_at p false inside ++ next)
-unfolding before
-before_ok writes t p len b next inside long e =
-    let said : block_for writes t p len b ≡ Ok (found_at p false inside) = rw (le-ltb (length b) len long, e) refl in
-    ap (before next) said
 
 before_err : (writes t : Bool) (p len : ℕ) (b : List ℕ) (next : List model.FoundMessage) (f : HeaderError) → len ≤ length b → known_by writes (block_at t b) ≡ Err f
     → block_before writes t p len b next ≡ Err (header_refusal p f)
@@ -169,30 +132,6 @@ pub before_refused : (writes t : Bool) (p len : ℕ) (b : List ℕ) (next : List
     → Told find_errors (block_before writes t p len b next) (Err (refused_header p f))
 before_refused writes t p len b next f long (inl e) = told_header (block_before writes t p len b next) p f (inl (before_err writes t p len b next f long e))
 before_refused writes t p len b next f long (inr e) = told_header (block_before writes t p len b next) p f (inr e)
-
-entry : List Range → Result (List model.FoundMessage) ReadError → Result (List model.FoundMessage × List Range) ReadError
-entry w r = elim r [ Ok ms ↦ Ok (ms, w) | Err f ↦ Err f ]
-
-entered_is : (writes t : Bool) (m : model.FoundMessage) (next : List model.FoundMessage) (v : List Range) (img : List ℕ) → 8 ≤ block_len m
-    → entered writes t m next v img ≡ entry (v ++ record { place = block_place m; len = block_len m } ∷ []) (block_before writes t (block_place m) (block_len m) (range img (block_place m) (block_len m)) next)
-unfolding entry
-entered_is writes t m next v img long = rw (le-ltb (block_len m) 8 long) refl
-
-pub entered_ok : (writes t : Bool) (m : model.FoundMessage) (next ms : List model.FoundMessage) (v : List Range) (img b : List ℕ) (p l : ℕ) → p ≡ block_place m → l ≡ block_len m → 8 ≤ l
-    → b ≡ range img p l → block_before writes t p l b next ≡ Ok ms → entered writes t m next v img ≡ Ok (ms, v ++ record { place = p; len = l } ∷ [])
-unfolding entry
-entered_ok writes t m next ms v img b p l there size long is e =
-    let k : 8 ≤ block_len m = omega arith in
-    let q : block_before writes t (block_place m) (block_len m) (range img (block_place m) (block_len m)) next ≡ Ok ms = rw (← there, ← size, ← is) e in
-    entered_is writes t m next v img k ∙ ap (entry (v ++ record { place = block_place m; len = block_len m } ∷ [])) q ∙ rw (← there, ← size) refl
-
-pub entered_err : (writes t : Bool) (m : model.FoundMessage) (next : List model.FoundMessage) (v : List Range) (img b : List ℕ) (p l : ℕ) (f : ReadError) → p ≡ block_place m → l ≡ block_len m → 8 ≤ l
-    → b ≡ range img p l → block_before writes t p l b next ≡ Err f → entered writes t m next v img ≡ Err f
-unfolding entry
-entered_err writes t m next v img b p l f there size long is e =
-    let k : 8 ≤ block_len m = omega arith in
-    let q : block_before writes t (block_place m) (block_len m) (range img (block_place m) (block_len m)) next ≡ Err f = rw (← there, ← size, ← is) e in
-    entered_is writes t m next v img k ∙ ap (entry (v ++ record { place = block_place m; len = block_len m } ∷ [])) q
 
 -- ---- Chunk 0
 
@@ -213,9 +152,6 @@ pub chunk_walks : (img : List ℕ) (writes : Bool) (place : ℕ) (p : Prefix) (b
     → eval img (from_chunk_0_for writes place p b)
     ≡ then_also (chunk_found writes place b) (λ ms. eval img (walk_for writes 32 place p.tracked (record { place = place; len = p.total } ∷ []) [] ms))
 chunk_walks img writes place p b = chunk_given img writes place p (known_by writes (messages_at b))
-
-pub chunk_ok : (writes : Bool) (place : ℕ) (b : List ℕ) (ms : List Msg) → known_by writes (messages_at b) ≡ Ok ms → chunk_found writes place b ≡ Ok (found_at place true ms)
-chunk_ok writes place b ms e = ap (λ r. seen (found_at place true) (refused_as (header_refusal place) r)) e
 
 chunk_err : (writes : Bool) (place : ℕ) (b : List ℕ) (f : HeaderError) → known_by writes (messages_at b) ≡ Err f → chunk_found writes place b ≡ Err (header_refusal place f)
 chunk_err writes place b f e = ap (λ r. seen (found_at place true) (refused_as (header_refusal place) r)) e

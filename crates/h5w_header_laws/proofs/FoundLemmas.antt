@@ -34,7 +34,7 @@ replaced_own kind place k v m = go (((m.kind == kind) && (m.place == place)) && 
     go true = refl
     go false = refl
 
-and_false : (t : Bool) → (t && false) ≡ false
+pub and_false : (t : Bool) → (t && false) ≡ false
 and_false true = refl
 and_false false = refl
 
@@ -92,7 +92,7 @@ same_eqb base a b = go (eqb_tells a b)
     go (inl t) = eq-eqb (base + a) (base + b) (ap (λ n. base + n) t.1) ∙ sym t.0
     go (inr t) = ne_eqb (base + a) (base + b) (λ e. t.1 (omega (arith, e))) ∙ sym t.0
 
-and_true : (t : Bool) → (t && true) ≡ t
+pub and_true : (t : Bool) → (t && true) ≡ t
 and_true true = refl
 and_true false = refl
 

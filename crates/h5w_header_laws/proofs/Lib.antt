@@ -11,3 +11,4 @@ pub mod FileLaws
 pub mod SpelledLemmas
 pub mod StepLaws
 pub mod Examples
+pub mod ShapeLemmas

@@ -13,24 +13,20 @@ use Rattle.h5w_model.specs.declared.refusal.ReadError.{ReadError}
 use Rattle.h5w_model.specs.declared.refusal.ReadError.TheVariants as read_errors
 use Rattle.h5w_model.specs.declared.refusal.HeaderError.TheVariants as header_errors
 use Rattle.h5w_laws.proofs.ResultLemmas.{choice_ok, choice_from}
-use Rattle.h5w_laws.proofs.SpliceLemmas.{block_found}
-use Rattle.h5w_visits.proofs.HeaderVisits.{choice_looks, header_is, same_header}
+use Rattle.h5w_laws.proofs.SpliceLemmas.{block_found, as_read}
+use Rattle.h5w_visits.proofs.HeaderVisits.{choice_looks, same_header}
 use Rattle.h5w_header_laws.proofs.ChunkLemmas.{of_kind}
-use Rattle.h5w_header_laws.proofs.FoundLemmas.{in_image, some_found}
+use Rattle.h5w_header_laws.proofs.FoundLemmas.{in_image, some_found, and_false, and_true}
 
 -- ---- The first message of a kind in chunk 0
 
 abbrev pub is_own : ℕ → FoundMessage → Bool
 is_own kind m = (m.kind == kind) && m.in_chunk_0
 
-no_own : (t : Bool) → (t && false) ≡ false
-no_own true = refl
-no_own false = refl
-
 own_behind : (kind place : ℕ) (inside : List Msg) (ms : List FoundMessage) → find (is_own kind) (found_at place false inside ++ ms) ≡ find (is_own kind) ms
 own_behind kind place [] ms = refl
 own_behind kind place (m ∷ inside) ms =
-    ap (λ t. cond t (Some (record { kind = m.kind; flags = m.flags; place = place + m.at; body = m.body; in_chunk_0 = false })) (find (is_own kind) (found_at place false inside ++ ms))) (no_own (m.kind == kind))
+    ap (λ t. cond t (Some (record { kind = m.kind; flags = m.flags; place = place + m.at; body = m.body; in_chunk_0 = false })) (find (is_own kind) (found_at place false inside ++ ms))) (and_false (m.kind == kind))
     ∙ own_behind kind place inside ms
 
 pub own_spliced : (img : List ℕ) (tracked : Bool) (kind n : ℕ) (ms rs : List FoundMessage) → continuation_kind ≢ kind → Spliced img tracked n ms rs → find (is_own kind) ms ≡ find (is_own kind) rs
@@ -53,10 +49,6 @@ own_first kind (m ∷ ms) x h own = go (cases_Bool (m.kind == kind)) (own_first 
         let e : m ≡ x = some_found m x (ap (λ c. cond c (Some m) (first_of kind ms)) (sym t) ∙ h) in
         (λ i. cond (t i && (ap (λ (n : FoundMessage). n.in_chunk_0) e ∙ own) i) (Some m) (find (is_own kind) ms)) ∙ ap Some e
     go (inr t) later = ap (λ c. cond (c && m.in_chunk_0) (Some m) (find (is_own kind) ms)) t ∙ later (ap (λ c. cond c (Some m) (first_of kind ms)) (sym t) ∙ h) own
-
-and_true : (t : Bool) → (t && true) ≡ t
-and_true true = refl
-and_true false = refl
 
 -- those of chunk 0 alone
 pub own_here : (kind place : ℕ) (ms : List Msg) → find (is_own kind) (found_at place true ms) ≡ option_map (in_image place) (find (of_kind kind) ms)
@@ -103,7 +95,7 @@ splice_changed : (f : FoundMessage → FoundMessage) (img new : List ℕ) (at_bl
     → eval new (splice at_block visited (map f done) (map f ms)) ≡ Ok (with_messages f h)
 splice_changed f img new at_block visited done [] h own go e same =
     let all : HeaderFields = record { messages = done; ranges = visited } in
-    ap (λ (x : HeaderFields). header_is (with_messages f x)) (same_header all h e)
+    ap (λ (x : HeaderFields). as_read (with_messages f x)) (same_header all h e)
 splice_changed f img new at_block visited done (m ∷ ms) h own go e same =
     cond_both (m.kind == 0x10) (at_block done m ms) (splice at_block visited (done ++ m ∷ []) ms)
     (λ (q : Prog (Result HeaderFields ReadError)). eval img q ≡ Ok h → Same img new (visits img q) → eval new (splice at_block visited (map f done) (f m ∷ map f ms)) ≡ Ok (with_messages f h))

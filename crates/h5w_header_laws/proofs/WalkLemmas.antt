@@ -1,22 +1,19 @@
 -- The messages of a header with a number written over 8 bytes of one message's data.
-use Rattle.std.proofs.Common.{◌≡◌, ◌≢◌, ◌⊎◌, ℕ, zero, suc, ◌+◌, ◌-◌, ◌<◌, ◌≤◌, min, Bool, true, false, cond, ◌&&◌, ◌||◌, List, [], ◌∷◌, length, map, take, drop, Result, Ok, Err, refl, ap, sym, ◌∙◌, subst, inl, inr, arith}
+use Rattle.std.proofs.Common.{◌≡◌, ◌≢◌, ◌⊎◌, ℕ, zero, suc, ◌+◌, ◌-◌, ◌<◌, ◌≤◌, min, Bool, true, false, cond, ◌&&◌, ◌||◌, List, [], ◌∷◌, length, map, take, drop, Ok, refl, ap, sym, ◌∙◌, subst, inl, inr, arith}
 use Rattle.std.specs.Prelude.{◌==◌, nat_lt}
-use Rattle.std.proofs.lemmas.Bool.{cases_Bool, cases_lt, ltb-false, eq-eqb, ne_eqb}
+use Rattle.std.proofs.lemmas.Bool.{cases_Bool, cases_lt, ltb-false, eq-eqb, ne_eqb, or_parts}
 use Rattle.h5w_model.specs.Numbers.{range, field}
 use Rattle.h5w_model.specs.Headers.{and_then, with_number, msgs_in, msg_at, data_size, overruns, continuation_kind}
 use Rattle.h5w_model.specs.declared.message.Msg.{Msg}
-use Rattle.h5w_model.specs.declared.refusal.HeaderError.{HeaderError}
 use Rattle.h5w_model.specs.declared.refusal.HeaderError.TheVariants.{Overrun}
 use Rattle.h5w_model.proofs.NumberLemmas.{field-take}
 use Rattle.h5w_model.proofs.HeaderLemmas.{and_then-ok, msgs_in-gap, msgs_in-overrun, msgs_in-more}
 use Rattle.h5w_model.proofs.ImageLemmas.{length-range}
+use Rattle.h5w_laws.proofs.PlaceLemmas.{listed, refused_list}
 use Rattle.h5w_header_laws.specs.Commits.{renumbered}
 use Rattle.h5w_header_laws.proofs.NumberLemmas.{length_number, number_beside, number_inside, rest_of, part_of}
 
 -- ---- One message
-
-abbrev pub listed : List Msg → Result (List Msg) HeaderError
-listed ms = Ok ms
 
 pub same_messages : (ms ns : List Msg) → listed ms ≡ listed ns → ms ≡ ns
 same_messages ms ns h = cc
@@ -31,13 +28,6 @@ pub data Stepped (before place : ℕ) (b : List ℕ) (fuel : ℕ) (ms : List Msg
   one : (rest : List Msg) → before ≤ length b → overruns before b ≡ false → before + data_size b ≤ length b
       → msgs_in fuel before (place + (before + data_size b)) (drop (before + data_size b) b) ≡ Ok rest → ms ≡ msg_at before place b ∷ rest → Stepped before place b fuel ms
 
-first_false : (s t : Bool) → (s || t) ≡ false → s ≡ false
-first_false true t h = absurd cc
-first_false false t h = refl
-
-refused_list : {Z : Type 0} (e : HeaderError) (ms : List Msg) → ◌≡◌ {A = Result (List Msg) HeaderError} (Err e) (Ok ms) → Z
-refused_list e ms h = cc
-
 pub stepped : (fuel before place : ℕ) (b : List ℕ) (ms : List Msg) → msgs_in (suc fuel) before place b ≡ Ok ms → Stepped before place b fuel ms
 stepped fuel before place b ms h = go (cases_lt (length b) before) (cases_Bool (overruns before b))
   where
@@ -47,7 +37,7 @@ stepped fuel before place b ms h = go (cases_lt (length b) before) (cases_Bool (
     go (inr long) (inr ends) =
         let next = before + data_size b in
         let more = and_then-ok (msgs_in fuel before (place + next) (drop next b)) (λ rest. listed (msg_at before place b ∷ rest)) ms (sym (msgs_in-more fuel before place b long ends) ∙ h) in
-        one more.0 long ends (ltb-false (length b) next (first_false (nat_lt (length b) next) ((field b 0 1 == continuation_kind) && nat_lt (data_size b) 16) ends)) more.1
+        one more.0 long ends (ltb-false (length b) next ((or_parts (nat_lt (length b) next) ((field b 0 1 == continuation_kind) && nat_lt (data_size b) 16) ends).0)) more.1
         (sym (same_messages (msg_at before place b ∷ more.0) ms more.2))
 
 pub one_more : (fuel before place : ℕ) (b : List ℕ) (rest : List Msg) → before ≤ length b → overruns before b ≡ false

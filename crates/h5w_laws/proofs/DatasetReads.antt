@@ -20,7 +20,7 @@ use Rattle.h5w_laws.specs.Relations.{FindsMessages, FindsDataset}
 use Rattle.h5w_laws.proofs.ResultLemmas.{then_ok, then_from, refused_ok, passes, and_then_ok, and_then_from, choice_ok, choice_from}
 use Rattle.h5w_laws.proofs.LoweringLemmas.{length_range}
 use Rattle.h5w_laws.proofs.SlotLemmas.{refused_from}
-use Rattle.h5w_laws.proofs.SpliceLemmas.{WalkFound, walk_found, by_order}
+use Rattle.h5w_laws.proofs.SpliceLemmas.{WalkFound, walk_found, by_order, as_read, as_refused}
 use Rattle.h5w_laws.proofs.SpliceReads.{ReadsAs, walk_reads}
 use Rattle.h5w_laws.proofs.PrefixLemmas.{begins, prefix_front, prefix_whole, IsCut, header_view_found, header_view_short, IsRootView, root_view_says, root_view_found}
 
@@ -72,9 +72,6 @@ chunk_whole img place p ms e m =
     omega arith
 
 -- ---- From chunk 0
-
-abbrev pub read_header : HeaderFields → Result HeaderFields ReadError
-read_header h = Ok h
 
 -- the program that goes on with the messages
 pub walk_from : ℕ → Prefix → List Msg → Prog (Result HeaderFields ReadError)
@@ -177,9 +174,6 @@ pub record HasSmall (img : List ℕ) (place : ℕ) (messages : List FoundMessage
   header : HasMessages img place messages
   small : header.prefix.total ≤ 512
 
-abbrev pub refused_header : ReadError → Result HeaderFields ReadError
-refused_header e = Err e
-
 pub small_found : (img : List ℕ) (place : ℕ) (h : HeaderFields) → eval img (dataset_messages place (header_view (range img place 512))) ≡ Ok h → HasSmall img place h.messages
 unfolding small_from chunk_found
 small_found img place h e =
@@ -188,11 +182,11 @@ small_found img place h e =
     let look = header_view_found (range img place 512) p.0 p.1 in
     go p.0 look.0 look.1 (by_order img 512 p.0.total (ret (Err (read_errors.Unsupported (record { 0 = 1 })))) (from_chunk_0 place p.0 view) (Ok h) p.2)
   where
-    never : {Z : Type 0} (e : ReadError) → refused_header e ≡ read_header h → Z
+    never : {Z : Type 0} (e : ReadError) → as_refused e ≡ as_read h → Z
     never e i = cc
 
     go : (p : Prefix) → prefix_at (range img place 512) ≡ Ok p → IsCut (range img place 512) (header_view (range img place 512)) p
-        → (512 < p.total) × (refused_header (read_errors.Unsupported (record { 0 = 1 })) ≡ read_header h)
+        → (512 < p.total) × (as_refused (read_errors.Unsupported (record { 0 = 1 })) ≡ as_read h)
         ⊎ (p.total ≤ 512) × (eval img (from_chunk_0 place p (header_view (range img place 512))) ≡ Ok h)
         → HasSmall img place h.messages
     go p look cut (inl long) = never (read_errors.Unsupported (record { 0 = 1 })) long.1

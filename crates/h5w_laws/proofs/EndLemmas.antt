@@ -20,10 +20,10 @@ use Rattle.h5w_laws.proofs.ApartLemmas.{all_joined}
 abbrev pub AllEnd : ℕ → List Used → Type 0
 AllEnd end us = AllByRecursion (EndsBy end) us
 
-abbrev of_visit : List Used → Result (List Used) Finding
-of_visit us = Ok us
+abbrev pub ranges_are : List Used → Result (List Used) Finding
+ranges_are us = Ok us
 
-pub same_ranges : (us vs : List Used) → of_visit us ≡ of_visit vs → us ≡ vs
+pub same_ranges : (us vs : List Used) → ranges_are us ≡ ranges_are vs → us ≡ vs
 same_ranges us vs h = cc
 
 -- ---- Headers and chunks
@@ -31,8 +31,8 @@ same_ranges us vs h = cc
 pub header_ends : (end : ℕ) (rs : List Range) (us : List Used) → header_ranges end rs ≡ Ok us → AllEnd end us
 header_ends end [] us h = subst (AllEnd end) (same_ranges [] us h) tt
 header_ends end (r ∷ rs) us h =
-    let f = fails (nat_lt end (r.place + r.len)) (then_also (header_ranges end rs) (λ vs. of_visit (record { place = r.place; len = r.len; chunk = false } ∷ vs))) (found block_past_end r.place) us h in
-    let t = then_ok (header_ranges end rs) (λ vs. of_visit (record { place = r.place; len = r.len; chunk = false } ∷ vs)) us f.1 in
+    let f = fails (nat_lt end (r.place + r.len)) (then_also (header_ranges end rs) (λ vs. ranges_are (record { place = r.place; len = r.len; chunk = false } ∷ vs))) (found block_past_end r.place) us h in
+    let t = then_ok (header_ranges end rs) (λ vs. ranges_are (record { place = r.place; len = r.len; chunk = false } ∷ vs)) us f.1 in
     subst (AllEnd end) (same_ranges (record { place = r.place; len = r.len; chunk = false } ∷ t.0) us t.2) (ltb-false end (r.place + r.len) f.0, header_ends end rs t.0 t.1)
 
 chunks_end : (end bytes : ℕ) (places : List ℕ) (us : List Used) → chunk_ranges end bytes places ≡ Ok us → AllEnd end us
@@ -40,17 +40,17 @@ chunks_end end bytes [] us h = subst (AllEnd end) (same_ranges [] us h) tt
 chunks_end end bytes (a ∷ rest) us h = go (chunks_end end bytes rest) h
   where
     own : ((vs : List Used) → chunk_ranges end bytes rest ≡ Ok vs → AllEnd end vs)
-        → cond (nat_lt end (a + bytes)) (Err (found chunk_past_end a)) (then_also (chunk_ranges end bytes rest) (λ vs. of_visit (record { place = a; len = bytes; chunk = true } ∷ vs))) ≡ of_visit us → AllEnd end us
+        → cond (nat_lt end (a + bytes)) (Err (found chunk_past_end a)) (then_also (chunk_ranges end bytes rest) (λ vs. ranges_are (record { place = a; len = bytes; chunk = true } ∷ vs))) ≡ ranges_are us → AllEnd end us
     own more h =
-        let f = fails (nat_lt end (a + bytes)) (then_also (chunk_ranges end bytes rest) (λ vs. of_visit (record { place = a; len = bytes; chunk = true } ∷ vs))) (found chunk_past_end a) us h in
-        let t = then_ok (chunk_ranges end bytes rest) (λ vs. of_visit (record { place = a; len = bytes; chunk = true } ∷ vs)) us f.1 in
+        let f = fails (nat_lt end (a + bytes)) (then_also (chunk_ranges end bytes rest) (λ vs. ranges_are (record { place = a; len = bytes; chunk = true } ∷ vs))) (found chunk_past_end a) us h in
+        let t = then_ok (chunk_ranges end bytes rest) (λ vs. ranges_are (record { place = a; len = bytes; chunk = true } ∷ vs)) us f.1 in
         subst (AllEnd end) (same_ranges (record { place = a; len = bytes; chunk = true } ∷ t.0) us t.2) (ltb-false end (a + bytes) f.0, more t.0 t.1)
 
-    go : ((vs : List Used) → chunk_ranges end bytes rest ≡ Ok vs → AllEnd end vs) → chunk_ranges end bytes (a ∷ rest) ≡ of_visit us → AllEnd end us
+    go : ((vs : List Used) → chunk_ranges end bytes rest ≡ Ok vs → AllEnd end vs) → chunk_ranges end bytes (a ∷ rest) ≡ ranges_are us → AllEnd end us
     go more h =
         cond_both (a == undefined) (chunk_ranges end bytes rest)
-        (cond (nat_lt end (a + bytes)) (Err (found chunk_past_end a)) (then_also (chunk_ranges end bytes rest) (λ vs. of_visit (record { place = a; len = bytes; chunk = true } ∷ vs))))
-        (λ (r : Result (List Used) Finding). r ≡ of_visit us → AllEnd end us) (λ t. more us) (λ t. own more) h
+        (cond (nat_lt end (a + bytes)) (Err (found chunk_past_end a)) (then_also (chunk_ranges end bytes rest) (λ vs. ranges_are (record { place = a; len = bytes; chunk = true } ∷ vs))))
+        (λ (r : Result (List Used) Finding). r ≡ ranges_are us → AllEnd end us) (λ t. more us) (λ t. own more) h
 
 -- ---- Visits
 
@@ -69,8 +69,8 @@ chosen img end t p q h g = cond_both t p q (λ (r : Visited). Ends img end r) (�
 
 both_end : (img : List ℕ) (end : ℕ) (p q : Visited) → Ends img end p → Ends img end q → Ends img end (both p q)
 both_end img end p q h g us e =
-    let a = and_then_ok img p (λ us. and_then q (λ vs. ret (of_visit (us ++ vs)))) us e in
-    let b = and_then_ok img q (λ vs. ret (of_visit (a.0 ++ vs))) us a.2 in
+    let a = and_then_ok img p (λ us. and_then q (λ vs. ret (ranges_are (us ++ vs)))) us e in
+    let b = and_then_ok img q (λ vs. ret (ranges_are (a.0 ++ vs))) us a.2 in
     subst (AllEnd end) (same_ranges (a.0 ++ b.0) us b.2) (all_joined (EndsBy end) a.0 b.0 (h a.0 a.1) (g b.0 b.1))
 
 each_end : (img : List ℕ) (end : ℕ) (visit : ℕ → Visited) (places : List ℕ) → ((a : ℕ) → Ends img end (visit a)) → Ends img end (visit_each visit places)
@@ -80,10 +80,10 @@ each_end img end visit (a ∷ rest) h = both_end img end (visit a) (visit_each v
 block_end : (img : List ℕ) (end place n : ℕ) (visit : List ℕ → Visited) → ((b : List ℕ) → Ends img end (visit b)) → Ends img end (block_in end place n visit)
 block_end img end place n visit h us e =
     cond_both (nat_lt end (place + n)) (ret (Err (found block_past_end place)))
-    (whole place n (λ b. and_then (visit b) (λ vs. ret (of_visit (record { place = place; len = n; chunk = false } ∷ vs)))))
+    (whole place n (λ b. and_then (visit b) (λ vs. ret (ranges_are (record { place = place; len = n; chunk = false } ∷ vs)))))
     (λ (q : Visited). eval img q ≡ Ok us → AllEnd end us) (λ t e. cc)
     (λ t e.
-    let a = and_then_ok img (visit (range img place n)) (λ vs. ret (of_visit (record { place = place; len = n; chunk = false } ∷ vs))) us e in
+    let a = and_then_ok img (visit (range img place n)) (λ vs. ret (ranges_are (record { place = place; len = n; chunk = false } ∷ vs))) us e in
     subst (AllEnd end) (same_ranges (record { place = place; len = n; chunk = false } ∷ a.0) us a.2) (ltb-false end (place + n) t, h (range img place n) a.0 a.1))
     e
 
@@ -218,13 +218,13 @@ node_ends img end bytes (suc depth) place n =
 
 tree_end : (img : List ℕ) (end bytes place : ℕ) → Ends img end (tree_visit end bytes place)
 tree_end img end bytes place =
-    let root : BthdFields → Visited = λ t. and_then (node_visit end bytes t.depth t.root t.records) (λ u. ret (of_visit u.ranges)) in
+    let root : BthdFields → Visited = λ t. and_then (node_visit end bytes t.depth t.root t.records) (λ u. ret (ranges_are u.ranges)) in
     let inner : BthdFields → Visited = λ t. cond (t.root == undefined) (ret (Ok [])) (root t) in
     block_end img end place bthd_len (λ b. elim (bthd_at b place) as (λ _. Visited) [ Ok t ↦ inner t | Err f ↦ ret (Err (found bad_index_header place)) ])
     (λ b. decoded_end img end (bthd_at b place) inner (λ f. found bad_index_header place)
     (λ t. chosen img end (t.root == undefined) (ret (Ok [])) (root t) (no_visit img end)
     (λ us e.
-    let a = and_then_ok img (node_visit end bytes t.depth t.root t.records) (λ u. ret (of_visit u.ranges)) us e in
+    let a = and_then_ok img (node_visit end bytes t.depth t.root t.records) (λ u. ret (ranges_are u.ranges)) us e in
     subst (AllEnd end) (same_ranges a.0.ranges us a.2) (node_ends img end bytes t.depth t.root t.records a.0 a.1))))
 
 -- ---- The index

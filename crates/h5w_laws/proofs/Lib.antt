@@ -24,3 +24,5 @@ pub mod FitLemmas
 pub mod LinkLemmas
 pub mod OneNameLemmas
 pub mod SeveralLemmas
+pub mod NodeLemmas
+pub mod MostLooks

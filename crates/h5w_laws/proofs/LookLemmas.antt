@@ -282,10 +282,3 @@ pub lowered_ends : {A : Type 0} (img : List ℕ) (cap : ℕ) (ks : List Kept) (p
     → rest_after (lowered cap ks p) ls ≡ Some q → Takes (lowered cap ks p) (ls ++ looks_on img q) (eval img q)
 lowered_ends img cap ks p ls q e =
     rest_append (lowered cap ks p) ls (looks_on img q) q e ∙ takes_on img q (plain_rest (lowered cap ks p) ls q (plain_lowered cap ks p) e)
-
--- a look at an image that differs from the old one where nothing was looked at
-abbrev pub seen : Taken
-seen = record { look = record { place = 1; len = 2; bytes = 5 ∷ 6 ∷ [] }; image = 9 ∷ 5 ∷ 6 ∷ 7 ∷ [] }
-
-abbrev pub two_bytes : Prog (List ℕ)
-two_bytes = whole 1 2 ret

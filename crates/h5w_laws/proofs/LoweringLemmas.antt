@@ -75,10 +75,6 @@ range_short img place m n short h =
 
 -- ---- A range in looks of 512 bytes, on one image
 
-pub pieces_none : {A : Type 0} (fuel place : ℕ) (got : List ℕ) (next : List ℕ → Prog A) → look_pieces fuel place 0 got next ≡ next got
-pieces_none zero place got next = refl
-pieces_none (suc fuel) place got next = refl
-
 pub eval_pieces : {A : Type 0} (img : List ℕ) (fuel place len : ℕ) (got : List ℕ) (next : List ℕ → Prog A) → len ≤ 512 * fuel
     → eval img (look_pieces fuel place len got next) ≡ eval img (next (got ++ range img place len))
 eval_pieces img zero place len got next enough =

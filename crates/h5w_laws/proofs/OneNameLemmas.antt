@@ -12,6 +12,7 @@ use Rattle.h5w_model.specs.declared.refusal.ReadError.{ReadError}
 use Rattle.h5w_laws.specs.Several.{alone, OneName}
 use Rattle.h5w_laws.proofs.ProgramLemmas.{eval_bind, eval_and_then}
 use Rattle.h5w_laws.proofs.LinkLemmas.{link_step, of_names, links_step, root_step, names_step, eval_names, of_all, parts_step, all_step}
+use Rattle.h5w_laws.proofs.RangeLemmas.{of_root}
 
 -- ---- Answers one after another
 
@@ -28,9 +29,6 @@ viewed_then v (Ok a) f = refl
 viewed_then v (Err e) f = refl
 
 -- ---- One link
-
-abbrev of_root : ℕ × List Used → Result (ℕ × List Used) Finding
-of_root t = Ok t
 
 -- one place as all places
 abbrev as_names : ℕ × List Used → Result (List ℕ × List Used) Finding
@@ -154,10 +152,10 @@ check_alone limits img name size =
     ∙ sym (viewed_then alone x (λ s. eval img (own_step limits name s)))
     ∙ ap (viewed alone) (sym (eval_and_then img (ret x) (own_step limits name)))
 
-abbrev of_summary : AllSummary → Result AllSummary Finding
+abbrev pub of_summary : AllSummary → Result AllSummary Finding
 of_summary t = Ok t
 
-same_summary : (t u : AllSummary) → of_summary t ≡ of_summary u → t ≡ u
+pub same_summary : (t u : AllSummary) → of_summary t ≡ of_summary u → t ≡ u
 same_summary t u h = cc
 
 abbrev of_finding : Finding → Result AllSummary Finding

@@ -3,7 +3,7 @@ use Rattle.std.proofs.Common.{◌≡◌, ◌⊎◌, ℕ, zero, suc, ◌+◌, ◌
 use Rattle.std.specs.Prelude.{nat_eq, nat_le, nat_lt, ◌==◌, find, option_map, option_and_then}
 use Rattle.std.specs.List.{starts_with, AllByRecursion}
 use Rattle.std.specs.Cmp.Lexicographic.{pointwise}
-use Rattle.std.proofs.lemmas.Bool.{eqb-true, leb-true, le-leb, ltb-false, cases_Bool, cases_lt}
+use Rattle.std.proofs.lemmas.Bool.{eqb-true, leb-true, le-leb, ltb-false, cases_Bool, cases_lt, or_parts}
 use Rattle.std.proofs.lemmas.List.{drop-drop, drop-take}
 use Rattle.h5w_model.specs.Numbers.{num, field, range}
 use Rattle.h5w_model.specs.Headers.{has, header_flags, messages_at, msgs_in, msg_at, data_size, before_data, overruns, continuation_kind, data_in_header, rows_in_data, rows_in_header, index_in_data, index_in_header, index_address_place}
@@ -57,7 +57,7 @@ one_index_place body s t l h =
 abbrev Stands : List ℕ → ℕ → Msg → Type 0
 Stands b before m = (k w : ℕ) → k + w ≤ length m.body → range m.body k w ≡ range b (m.at + before + k) w
 
-abbrev listed : List Msg → Result (List Msg) HeaderError
+abbrev pub listed : List Msg → Result (List Msg) HeaderError
 listed ms = Ok ms
 
 same_messages : (ms ns : List Msg) → listed ms ≡ listed ns → ms ≡ ns
@@ -86,11 +86,7 @@ rest_is b place n k low =
     ∙ drop-take k (n - k) (drop place b)
     ∙ ap (λ (xs : List ℕ). take (n - k) xs) (drop-drop k place b)
 
-no_overrun : (s t : Bool) → (s || t) ≡ false → s ≡ false
-no_overrun true t h = absurd cc
-no_overrun false t h = refl
-
-refused_list : {Z : Type 0} (e : HeaderError) (ms : List Msg) → ◌≡◌ {A = Result (List Msg) HeaderError} (Err e) (Ok ms) → Z
+pub refused_list : {Z : Type 0} (e : HeaderError) (ms : List Msg) → ◌≡◌ {A = Result (List Msg) HeaderError} (Err e) (Ok ms) → Z
 refused_list e ms h = cc
 
 -- the messages from a place on, where those behind the first do
@@ -104,7 +100,7 @@ stand_step b before fuel place n ms behind h (inr long) (inl over) =
 stand_step b before fuel place n ms behind h (inr long) (inr ends) =
     let c = range b place n in
     let next = before + data_size c in
-    let fits : next ≤ length c = ltb-false (length c) next (no_overrun (nat_lt (length c) next) ((field c 0 1 == continuation_kind) && nat_lt (data_size c) 16) ends) in
+    let fits : next ≤ length c = ltb-false (length c) next ((or_parts (nat_lt (length c) next) ((field c 0 1 == continuation_kind) && nat_lt (data_size c) 16) ends).0) in
     let low : next ≤ n = omega (arith, fits, length_range b place n) in
     let more = and_then-ok (msgs_in fuel before (place + next) (drop next c)) (λ rest. listed (msg_at before place c ∷ rest)) ms (sym (msgs_in-more fuel before place c long ends) ∙ h) in
     let rest = behind (place + next) (n - next) more.0 (ap (msgs_in fuel before (place + next)) (sym (rest_is b place n next low)) ∙ more.1) in

@@ -137,7 +137,7 @@ first_used end h us f e =
     let t = then_ok (header_ranges end f.rest) (λ vs. Ok (own ∷ vs)) us g.1 in
     record { first = own; rest = t.0; are = sym (same_ranges (own ∷ t.0) us t.2); some = f.some }
 
-abbrev of_root : ℕ × List Used → Result (ℕ × List Used) Finding
+abbrev pub of_root : ℕ × List Used → Result (ℕ × List Used) Finding
 of_root t = Ok t
 
 same_root : (t v : ℕ × List Used) → of_root t ≡ of_root v → t ≡ v

@@ -1,6 +1,7 @@
 -- What an answer tells of the steps that led to it.
 use Rattle.std.proofs.Common.{◌≡◌, ℕ, ◌+◌, ◌<◌, ◌≤◌, Bool, true, false, cond, List, length, Result, Ok, Err, refl, sym, ◌∙◌, ap, arith}
 use Rattle.std.specs.Prelude.{nat_le}
+use Rattle.std.specs.Result.{OnOk}
 use Rattle.std.proofs.lemmas.Bool.{leb-true}
 use Rattle.h5w_model.specs.Numbers.{range}
 use Rattle.h5w_model.specs.Programs.{Prog, ret, eval, and_then}
@@ -53,3 +54,17 @@ choice_from {A} {E} {B} {F} img r f g a b h e = ap (λ (x : Result A E). eval im
 -- a block with all its bytes ends within the image
 pub fits_in : (img : List ℕ) (place n : ℕ) → 0 < n → nat_le n (length (range img place n)) ≡ true → place + n ≤ length img
 fits_in img place n some t = omega (arith, leb-true n (length (range img place n)) t, length_range img place n)
+
+-- what follows of what holds of a value
+pub map_ok : {T E P Q : Type 0} (r : Result T E) → (P → Q) → OnOk r P → OnOk r Q
+map_ok (Ok x) f p = f p
+map_ok (Err e) f p = tt
+
+pub ok_is : {A E : Type 0} (a b : A) → ◌≡◌ {A = Result A E} (Ok a) (Ok b) → a ≡ b
+ok_is a b e = cc
+
+pub err_is : {A E : Type 0} (a b : E) → ◌≡◌ {A = Result A E} (Err a) (Err b) → a ≡ b
+err_is a b e = cc
+
+pub ok_err : {A E : Type 0} (a : A) (e : E) → ◌≡◌ {A = Result A E} (Ok a) (Err e) → ⊥
+ok_err a e h = cc

@@ -20,7 +20,7 @@ use Rattle.h5w_laws.proofs.EndLemmas.{AllEnd, header_ends, index_end}
 use Rattle.h5w_laws.proofs.RangeLemmas.{root_first, first_used, dataset_ranges, super_ends, super_within}
 use Rattle.h5w_laws.proofs.FitLemmas.{free_fit, fit_free, AreSomeOf, fit_some, sum_some, some_behind, some_front, some_joined}
 use Rattle.h5w_laws.proofs.LinkLemmas.{IsLinked, links_found, links_from, of_names, links_step, root_step, names_step, eval_names, of_all, parts_step, all_step}
-use Rattle.h5w_laws.proofs.OneNameLemmas.{one_name}
+use Rattle.h5w_laws.proofs.OneNameLemmas.{one_name, of_summary, same_summary}
 
 -- ---- Superblock, root header and links
 
@@ -141,12 +141,6 @@ parts_linked limits img s ms (n ∷ names) (p ∷ ps) h =
 
 -- ---- The check
 
-abbrev of_summary : AllSummary → Result AllSummary Finding
-of_summary t = Ok t
-
-same_summary : (t u : AllSummary) → of_summary t ≡ of_summary u → t ≡ u
-same_summary t u h = cc
-
 verdict_found : (s : Super) (ps : List Part) (us : List Used) (t : AllSummary) → all_verdict s ps us ≡ Ok t → (overlap_of (by_place us) ≡ None) × (t ≡ all_summary s ps us)
 verdict_found s ps us t h = go (overlap_of (by_place us)) refl h
   where
@@ -215,7 +209,7 @@ finds_all limits img names t = (all_found limits img names t, all_from limits im
 
 -- ---- Each dataset
 
-abbrev flat_ranges : List Part → List Used
+abbrev pub flat_ranges : List Part → List Used
 flat_ranges ps = flat_map (λ (p : Part). p.ranges) ps
 
 -- each one's ranges are some of all

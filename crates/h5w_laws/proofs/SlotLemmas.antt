@@ -5,7 +5,7 @@ use Rattle.h5w_model.specs.Numbers.{range, undefined}
 use Rattle.h5w_model.specs.Programs.{Prog, ret, whole, stored, eval}
 use Rattle.h5w_model.specs.Arrays.{EahdFields, EaibFields, SlotsFields, eahd_at, eaib_at, easb_at, eadb_at, eahd_len, eaib_len, slots_len, super_block_of, place_of}
 use Rattle.h5w_model.specs.Datasets.{then_also, refused_as}
-use Rattle.h5w_model.specs.Tables.{InPlace, nowhere, in_array, array_in_place, address_behind, array_slot, data_slot, secondary_slot, data_block, secondary_block, super_block_of_first}
+use Rattle.h5w_model.specs.Tables.{InPlace, nowhere, in_array, array_in_place, address_behind, data_slot, secondary_slot, data_block, secondary_block, super_block_of_first}
 use Rattle.h5w_model.specs.Relations.{DataSlot, SecondarySlot, SlotAt, ArraySlot, IsIndexBlock}
 use Rattle.h5w_model.specs.declared.cell.Key.{Key}
 use Rattle.h5w_model.specs.declared.cell.Place.{Place}
@@ -112,10 +112,6 @@ unfolding slot_program
 slot_read img e (Index slot) x h = ap Ok (sym h)
 slot_read img e (Direct block slot) x h = data_read img (get_or e.first block undefined) (super_block_of (super_block_of_first block)).slots slot x h
 slot_read img e (Second sblock block slot) x h = second_read img (get_or e.second (sblock - 4) undefined) sblock block slot x h
-
-pub array_slot_is : (e : EaibFields) (i : ℕ) → array_slot e i ≡ slot_program e (place_of i)
-unfolding slot_program
-array_slot_is e i = refl
 
 -- ---- The array
 

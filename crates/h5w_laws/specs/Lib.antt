@@ -8,3 +8,4 @@ pub mod Ranges
 pub mod Tiles
 pub mod ChunkNumbers
 pub mod Several
+pub mod MostLooks

@@ -27,21 +27,13 @@ use Rattle.h5w_headline.proofs.ValueLemmas.{reads_values}
 use Rattle.h5w_shared.specs.Threads.{Sight, placed}
 use Rattle.h5w_shared.specs.Turns.{StartsWith}
 use Rattle.h5w_shared.proofs.Beginnings.{starts_both, starts_itself, starts_length}
+use Rattle.h5w_laws.proofs.ResultLemmas.{ok_is, err_is, ok_err}
 use Rattle.h5w_live_laws.specs.Polls.{AnswersPoll, FindsRows, LooksThrough, TellPolls, TellsPoll, looks_in, new_values, sum_after, told_after}
 use Rattle.h5w_live_laws.specs.Laws.{IsStray, IsRunOf, KnowsShown, PollLaws, Restful, WasShown}
 use Rattle.h5w_live_laws.proofs.LineLemmas.{rises_lines, within_more}
 use Rattle.h5w_live_laws.proofs.SightLemmas.{any_within, looks_placed, through_call, through_starts}
 
 -- ---- Answers
-
-ok_is : {A E : Type 0} (a b : A) → ◌≡◌ {A = Result A E} (Ok a) (Ok b) → a ≡ b
-ok_is a b e = cc
-
-err_is : {A E : Type 0} (a b : E) → ◌≡◌ {A = Result A E} (Err a) (Err b) → a ≡ b
-err_is a b e = cc
-
-ok_err : {A E : Type 0} (a : A) (e : E) → ◌≡◌ {A = Result A E} (Ok a) (Err e) → ⊥
-ok_err a e h = cc
 
 abbrev attempts_of : ReadError → ℕ
 attempts_of (refusals.Again attempts place first last) = attempts

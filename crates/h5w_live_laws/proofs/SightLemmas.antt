@@ -7,17 +7,13 @@ use Rattle.h5w_model.specs.Readers.{Placed, IsCall, looks_of}
 use Rattle.h5w_model.specs.declared.piece.Write.{Write}
 use Rattle.h5w_shared.specs.Threads.{Sight, Sights, placed, seen_after}
 use Rattle.h5w_shared.specs.Turns.{StartsWith}
-use Rattle.h5w_shared.proofs.Beginnings.{starts_both, starts_itself, starts_length}
-use Rattle.h5w_shared.proofs.ThreadLemmas.{readers_call}
+use Rattle.h5w_shared.proofs.Beginnings.{starts_length}
+use Rattle.h5w_shared.proofs.ThreadLemmas.{readers_call, after_starts}
 use Rattle.h5w_live_laws.specs.Polls.{LooksThrough, looks_in}
 
 pub looks_placed : (ss : List Sight) → looks_of (placed ss) ≡ looks_in ss
 looks_placed [] = refl
 looks_placed (s ∷ ss) = ap (λ ls. s.look ∷ ls) (looks_placed ss)
-
-after_starts : (start : List ℕ) (from : List Write) (sights : List Sight) → Sights start from sights → StartsWith (seen_after from sights) from
-after_starts start from [] s = starts_itself from
-after_starts start from (s ∷ ss) p = starts_both (seen_after s.seen ss) s.seen from (after_starts start s.seen ss p.2) p.0
 
 -- a look is at a position between what was seen before and after
 placed_within : (start : List ℕ) (from : List Write) (ss : List Sight) → Sights start from ss → (k : ℕ) (x : Placed) → k < length (placed ss) → slice_index_or (placed ss) k x ≡ x

@@ -5,6 +5,7 @@ use Rattle.h5w_model.specs.Unfinished.{ReaderRules}
 use Rattle.h5w_model.specs.declared.piece.Write.{Write}
 use Rattle.h5w_model.specs.declared.report.PollLine.{PollLine}
 use Rattle.h5w_shared.specs.Seats.{ImageId, NoteView, SeatView}
+use Rattle.h5w_laws.proofs.ResultLemmas.{err_is}
 use Rattle.h5w_live_reading.specs.Ends.{EndWith, EndsWith, ReaderEnds, ReadersEnd, StraysWith}
 use Rattle.h5w_live_reading.specs.declared.actors.AllEnded.{AllEnded}
 use Rattle.h5w_live_reading.specs.declared.actors.Cut.{Cut}
@@ -37,9 +38,6 @@ end_more g i before calls readers seen notes lines more note h count ends = reco
 }
 
 -- ---- Outcomes
-
-err_is : {A E : Type 0} (a b : E) → ◌≡◌ {A = Result A E} (Err a) (Err b) → a ≡ b
-err_is a b e = cc
 
 pub all_ok : (g : ReaderRules) (i : ImageId) (before calls readers : ℕ) (seen : List Write) (e : AllEnded) → EndWith g i before calls readers seen e.notes.items e.lines.items → ReadersEnd g i before calls readers seen (Ok e)
 all_ok g i before calls readers seen e h = record { end = h; stray = λ note same. absurd cc }

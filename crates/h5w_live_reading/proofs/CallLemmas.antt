@@ -1,20 +1,18 @@
 -- A reader's call through its seat.
-use Rattle.std.proofs.Common.{◌≡◌, ◌≢◌, ◌<◌, ℕ, List, [], ◌∷◌, ◌++◌, Option, Some, None, Result, refl, sym, ap, ◌∙◌, subst, inl, inr, arith}
-use Rattle.std.specs.Prelude.{IsSome, option_map, ℤ}
+use Rattle.std.proofs.Common.{◌≡◌, ◌≢◌, ◌<◌, ℕ, List, [], ◌∷◌, ◌++◌, Option, Some, None, refl, sym, ap, ◌∙◌, subst, inl, inr, arith}
+use Rattle.std.specs.Prelude.{IsSome, option_map}
 use Rattle.std.proofs.lemmas.List.{map-append}
 use Rattle.h5w_model.specs.Causes.{Rose}
 use Rattle.h5w_model.specs.Asked.{left_after}
 use Rattle.h5w_model.specs.Images.{image}
 use Rattle.h5w_model.specs.Numbers.{range}
-use Rattle.h5w_model.specs.Programs.{Prog, Look, IsLookAt, rest_after}
-use Rattle.h5w_model.specs.Tables.{Reading}
-use Rattle.h5w_model.specs.Unfinished.{Unfinished, Reader, rows_left, values_left, fed_left, wanted, with_left}
+use Rattle.h5w_model.specs.Programs.{Look, IsLookAt}
+use Rattle.h5w_model.specs.Unfinished.{Unfinished, Reader, fed_left, wanted, with_left}
 use Rattle.h5w_model.specs.declared.piece.Write.{Write}
-use Rattle.h5w_model.specs.declared.refusal.ReadError.{ReadError}
 use Rattle.h5w_reader.specs.Readers.{StepTells}
 use Rattle.h5w_reader.specs.declared.step.Step.{Step}
 use Rattle.h5w_reader.specs.declared.step.Step.TheVariants as steps
-use Rattle.h5w_reader.proofs.AskedLemmas.{rest_more}
+use Rattle.h5w_reader.proofs.AskedLemmas.{left_more}
 use Rattle.h5w_shared.specs.Seats.{ImageId, SeatView, bytes_of}
 use Rattle.h5w_shared.specs.Threads.{Sight, Sights, seen_after}
 use Rattle.h5w_shared.specs.Turns.{StartsWith}
@@ -22,20 +20,6 @@ use Rattle.h5w_live_laws.specs.Polls.{LooksThrough, looks_in}
 use Rattle.h5w_live_reading.specs.Reading.{AnswersThrough}
 
 -- ---- A look more
-
-rows_more : (p : Prog (Result Reading ReadError)) (ls : List Look) (l : Look) (x : Option (Prog (Result Reading ReadError))) → rest_after p ls ≡ x → wanted (option_map rows_left x) ≡ Some (l.place, l.len)
-    → option_map rows_left (rest_after p (ls ++ l ∷ [])) ≡ option_map (fed_left l.bytes) (option_map rows_left x)
-rows_more p ls l None e next = absurd cc
-rows_more p ls l (Some t) e next = ap (option_map rows_left) (rest_more p t ls l e next)
-
-values_more : (p : Prog (Result (List ℤ) ReadError)) (ls : List Look) (l : Look) (x : Option (Prog (Result (List ℤ) ReadError))) → rest_after p ls ≡ x → wanted (option_map values_left x) ≡ Some (l.place, l.len)
-    → option_map values_left (rest_after p (ls ++ l ∷ [])) ≡ option_map (fed_left l.bytes) (option_map values_left x)
-values_more p ls l None e next = absurd cc
-values_more p ls l (Some t) e next = ap (option_map values_left) (rest_more p t ls l e next)
-
-left_more : (ls : List Look) (p : Unfinished) (l : Look) → wanted (left_after ls p) ≡ Some (l.place, l.len) → left_after (ls ++ l ∷ []) p ≡ option_map (fed_left l.bytes) (left_after ls p)
-left_more ls (rows_left p) l next = rows_more p ls l (rest_after p ls) refl next
-left_more ls (values_left p) l next = values_more p ls l (rest_after p ls) refl next
 
 sights_more : (start : List ℕ) (from : List Write) (ss : List Sight) (s : Sight) → Sights start from ss → StartsWith s.seen (seen_after from ss) → IsLookAt (image start s.seen) s.look
     → Sights start from (ss ++ s ∷ []) × (s.seen ≡ seen_after from (ss ++ s ∷ []))

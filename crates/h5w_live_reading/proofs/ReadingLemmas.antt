@@ -16,6 +16,7 @@ use Rattle.h5w_model.specs.declared.report.PollLine.{PollLine}
 use Rattle.h5w_reader.specs.Readers.{IsRefused, new_reader}
 use Rattle.h5w_reader.specs.declared.step.Step.TheVariants as steps
 use Rattle.h5w_shared.specs.Threads.{Sight}
+use Rattle.h5w_reader.proofs.AskedLemmas.{no_values, no_rows}
 use Rattle.h5w_live_laws.specs.Polls.{AnswersPoll, FindsRows, GivesUpAfter, TellPolls, looks_in, new_values, sum_after, told_after}
 use Rattle.h5w_live_laws.specs.Laws.{IsStray}
 use Rattle.h5w_live_laws.proofs.PollLemmas.{sum_more, tell_more}
@@ -30,14 +31,6 @@ rows_inside (Some y) t e = let same : y ≡ t = cc in ap Some same
 values_inside : (x : Option (Prog (Result (List ℤ) ReadError))) (t : Prog (Result (List ℤ) ReadError)) → option_map values_left x ≡ Some (values_left t) → x ≡ Some t
 values_inside None t e = cc
 values_inside (Some y) t e = let same : y ≡ t = cc in ap Some same
-
-no_values : (x : Option (Prog (Result (List ℤ) ReadError))) (t : Prog (Result Reading ReadError)) → option_map values_left x ≡ Some (rows_left t) → ⊥
-no_values None t e = cc
-no_values (Some y) t e = cc
-
-no_rows : (x : Option (Prog (Result Reading ReadError))) (t : Prog (Result (List ℤ) ReadError)) → option_map rows_left x ≡ Some (values_left t) → ⊥
-no_rows None t e = cc
-no_rows (Some y) t e = cc
 
 -- ---- A read
 

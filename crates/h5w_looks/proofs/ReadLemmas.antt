@@ -1,9 +1,9 @@
 -- The bytes of a still image, look by look.
-use Rattle.std.proofs.Common.{◌≡◌, ℕ, ◌+◌, ◌-◌, ◌^◌, ◌<◌, ◌≤◌, min, List, ◌++◌, length, sym, ◌∙◌, ap, subst, arith, length-append, append_assoc}
-use Rattle.std.specs.Prelude.{Bool, IsTrue}
+use Rattle.std.proofs.Common.{◌≡◌, ℕ, ◌+◌, ◌-◌, ◌^◌, ◌<◌, ◌≤◌, min, List, ◌++◌, length, sym, ◌∙◌, ap, subst, arith, length-append, append_assoc, Option}
+use Rattle.std.specs.Prelude.{Bool, IsTrue, IfSome}
 use Rattle.h5w_model.specs.Numbers.{range}
 use Rattle.h5w_model.specs.Programs.{below_end}
-use Rattle.h5w_image.specs.View.{ImageView, Looked}
+use Rattle.h5w_image.specs.View.{ImageView, Looked, GivesRange}
 use Rattle.h5w_laws.proofs.LoweringLemmas.{range_cut, range_short, range_below, length_range}
 use Rattle.h5w_looks.specs.Still.{IsStill}
 
@@ -35,3 +35,7 @@ short_piece img got more place rest n e counted few long =
 
 pub all_below : (img bytes : List ℕ) (place len : ℕ) → length img < 2 ^ 64 → bytes ≡ range img place (below_end place len) → bytes ≡ range img place len
 all_below img bytes place len short e = e ∙ range_below img place len (omega arith)
+
+-- the bytes that a look at a still image gave
+pub given_there : (x : ImageView) (img : List ℕ) (at len : ℕ) (bytes : List ℕ) → IsStill x img → GivesRange x at len bytes → bytes ≡ range img at len
+given_there x img at len bytes still gives = subst (λ (o : Option (List ℕ)). IfSome o (λ b. bytes ≡ range b at len)) still.told gives

@@ -1,14 +1,7 @@
 -- The addresses in the slots of a block, by its bytes.
-use Rattle.std.proofs.Common.{◌≡◌, ℕ, zero, suc, ◌+◌, ◌-◌, ◌*◌, ◌<◌, ◌≤◌, List, ◌∷◌, ◌++◌, length, take, drop, get_or, Ok, refl, sym, ◌∙◌, ap, subst, arith}
-use Rattle.std.proofs.lemmas.Bool.{leb-true}
+use Rattle.std.proofs.Common.{◌≡◌, ℕ, zero, suc, ◌+◌, ◌-◌, ◌*◌, ◌<◌, ◌≤◌, List, ◌∷◌, ◌++◌, take, drop, get_or, refl, sym, ◌∙◌, ap, arith}
 use Rattle.h5w_model.specs.Numbers.{field}
-use Rattle.h5w_model.specs.Arrays.{numbers_in, array_tests, slots_at, eadb_at, easb_at, slots_fields, slots_len}
-use Rattle.h5w_model.specs.Blocks.{block_tests}
-use Rattle.h5w_model.specs.Tables.{data_block, secondary_block}
-use Rattle.h5w_model.proofs.CheckedLemmas.{checked-passed}
-use Rattle.h5w_lookup.specs.Blocks.{IsRead, GivesSlots}
-use Rattle.h5w_lookup.specs.Contents.{slots_in}
-use Rattle.h5w_lookup.specs.declared.content.Content.{Content}
+use Rattle.h5w_model.specs.Arrays.{numbers_in}
 
 -- ---- Numbers
 
@@ -45,31 +38,3 @@ numbers_take b (suc n) p (suc c) h = ap (λ (xs : List ℕ). field b p 8 ∷ xs)
 -- some of them, from one on
 pub numbers_from : (b : List ℕ) (n p f c : ℕ) → f + c ≤ n → numbers_in b c (p + 8 * f) ≡ take c (drop f (numbers_in b n p))
 numbers_from b n p f c h = sym (ap (take c) (numbers_drop b n p f (omega arith)) ∙ numbers_take b (n - f) (p + 8 * f) c (omega arith))
-
--- ---- A block that passed its tests
-
--- it is whole
-pub slots_whole : (signature b : List ℕ) (p n : ℕ) → slots_at signature b p n ≡ Ok (slots_fields b n) → slots_len n ≤ length b
-slots_whole signature b p n e =
-    let passed = checked-passed (block_tests signature (slots_len n) b ++ array_tests b p) (slots_fields b n) (slots_fields b n) e in
-    leb-true (slots_len n) (length b) passed.0.0
-
-pub data_is : (p n : ℕ) (b : List ℕ) (c : Content) → eadb_at b p n ≡ Ok (slots_fields b n) → slots_in c ≡ numbers_in b n 18 → IsRead data_block p (slots_len n) b c
-data_is p n b c e says = record {
-  of_data = λ m kind len.
-      let same : n ≡ m = omega (arith, len) in
-      subst (λ k. GivesSlots (slots_in c) (eadb_at b p k)) same (subst (GivesSlots (slots_in c)) (sym e) (sym says));
-  of_second = λ m kind len. absurd (omega arith);
-  of_leaf = λ m kind len. absurd (omega arith);
-  of_inner = λ d m h kind len. absurd (omega arith);
-}
-
-pub second_is : (p n : ℕ) (b : List ℕ) (c : Content) → easb_at b p n ≡ Ok (slots_fields b n) → slots_in c ≡ numbers_in b n 18 → IsRead secondary_block p (slots_len n) b c
-second_is p n b c e says = record {
-  of_data = λ m kind len. absurd (omega arith);
-  of_second = λ m kind len.
-      let same : n ≡ m = omega (arith, len) in
-      subst (λ k. GivesSlots (slots_in c) (easb_at b p k)) same (subst (GivesSlots (slots_in c)) (sym e) (sym says));
-  of_leaf = λ m kind len. absurd (omega arith);
-  of_inner = λ d m h kind len. absurd (omega arith);
-}

@@ -9,10 +9,10 @@ use Rattle.h5w_ea.specs.declared.index_block.Eaib.{Eaib}
 use Rattle.h5w_bt.specs.Fields.{bthd_of}
 use Rattle.h5w_bt.specs.declared.header.Bthd.{Bthd}
 use Rattle.h5w_lookup.specs.Indexes.{IsIndexOf}
-use Rattle.h5w_lookup.proofs.NodeLemmas.{IsRoot}
 use Rattle.h5w_lookup.specs.declared.index.Index.{Index}
 use Rattle.h5w_lookup.specs.declared.index.Index.TheVariants as indexes
 use Rattle.std.proofs.Math.Nat.{mul-zero, div-le_self}
+use Rattle.h5w_laws.proofs.NodeLemmas.{IsRoot}
 
 -- fewer chunks can be looked up in it, too
 pub index_fewer : (index : Index) (m n : ℕ) → m ≤ n → IsIndexOf n index → IsIndexOf m index

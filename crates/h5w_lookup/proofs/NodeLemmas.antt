@@ -3,22 +3,22 @@ use Rattle.std.proofs.Common.{◌≡◌, ℕ, zero, suc, ◌+◌, ◌-◌, ◌*�
 use Rattle.std.specs.Prelude.{codes}
 use Rattle.std.specs.List.{All}
 use Rattle.std.proofs.lemmas.List.{drop_all, drop-map}
-use Rattle.std.proofs.lemmas.List.Elements.{All-nil, All-cons, All-drop}
-use Rattle.std.proofs.lemmas.Bool.{leb-true}
-use Rattle.h5w_model.specs.Numbers.{field, undefined}
+use Rattle.std.proofs.lemmas.List.Elements.{All-drop, All-head}
+use Rattle.h5w_model.specs.Numbers.{undefined}
 use Rattle.h5w_model.specs.Blocks.{block_tests}
 use Rattle.h5w_model.specs.Programs.{Prog, ret, stored, Kept, kept_bytes, used}
 use Rattle.h5w_model.specs.Tables.{Reading, in_leaf, in_node, key_below, key_equal, tree_lookup, tree_node}
-use Rattle.h5w_model.specs.Trees.{RecordFields, ChildFields, BtinFields, BthdFields, bthd_at, bthd_tests, bthd_fields, btlf_at, btin_at, btin_fields, btin_len, node_tests, child_tests, children_in, pointer_size, capacity_of}
+use Rattle.h5w_model.specs.Trees.{RecordFields, ChildFields, BtinFields, btlf_at, btin_at, btin_fields, btin_len, node_tests, child_tests, capacity_of}
 use Rattle.h5w_model.specs.Datasets.{then_also, refused_as}
 use Rattle.h5w_model.specs.declared.cell.Key.{Key}
 use Rattle.h5w_model.specs.declared.refusal.BlockFault.{BlockFault}
 use Rattle.h5w_model.specs.declared.refusal.ReadError.{ReadError}
 use Rattle.h5w_model.specs.declared.refusal.ReadError.TheVariants.{Damaged}
-use Rattle.h5w_model.proofs.CheckedLemmas.{AllPass, checked-passed}
+use Rattle.h5w_model.proofs.CheckedLemmas.{checked-passed}
 use Rattle.h5w_bt.specs.declared.records.Record.{Record}
 use Rattle.h5w_bt.specs.declared.children.Child.{Child}
 use Rattle.h5w_bt.specs.Parts.{record_of, child_of}
+use Rattle.h5w_laws.proofs.NodeLemmas.{children_few}
 use Rattle.h5w_lookup.specs.Blocks.{IsRead, node_len, node_at}
 use Rattle.h5w_lookup.specs.Contents.{inner_in}
 use Rattle.h5w_lookup.specs.Turns.{ForChild}
@@ -94,26 +94,14 @@ children_last go key rs cs i d h k =
     ap (λ (xs : List RecordFields). in_node go key xs (drop i (map child_of cs))) (none_mapped record_of rs i h)
     ∙ ap (in_node go key []) (next_mapped child_of cs i d k)
 
-pub children_end : (go : ChildFields → Prog (Result ℕ ReadError)) (key : Key) (rs : List RecordFields) (cs : List Child) (i : ℕ) → length cs ≤ i → in_node go key rs (drop i (map child_of cs)) ≡ ret (Ok undefined)
-children_end go key rs cs i h = ap (in_node go key rs) (none_mapped child_of cs i h)
-
-all_head : (P : ChildFields → Type 0) (c : ChildFields) (cs : List ChildFields) → All P (c ∷ cs) → P c
-all_head P c cs h = h 0 c (omega arith)
-
 -- what holds of each child holds of one
 pub child_holds : (most : ℕ) (cs : List Child) (i : ℕ) (d : Child) → i < length cs → All (λ (c : ChildFields). c.records ≤ most) (map child_of cs) → (get_or cs i d).records ≤ most
 child_holds most cs i d h all =
     let P : ChildFields → Type 0 = λ c. c.records ≤ most in
     let rest : All P (child_of (get_or cs i d) ∷ drop (i + 1) (map child_of cs)) = subst (All P) (next_mapped child_of cs i d h) (All-drop P i (map child_of cs) all) in
-    all_head P (child_of (get_or cs i d)) (drop (i + 1) (map child_of cs)) rest
+    All-head P (child_of (get_or cs i d)) (drop (i + 1) (map child_of cs)) rest
 
 -- ---- What decoders say
-
-children_few : (b : List ℕ) (at depth n from : ℕ) → AllPass (child_tests b at depth n from) → All (λ (c : ChildFields). c.records ≤ capacity_of (depth - 1)) (children_in b depth n from)
-children_few b p depth zero from pass = All-nil (λ (c : ChildFields). c.records ≤ capacity_of (depth - 1))
-children_few b p depth (suc n) from pass =
-    All-cons (λ (c : ChildFields). c.records ≤ capacity_of (depth - 1)) _ (children_in b depth n (from + pointer_size depth)) (leb-true (field b (from + 8) 1) (capacity_of (depth - 1)) pass.0)
-    (children_few b p depth n (from + pointer_size depth) pass.1)
 
 pub inner_few : (b : List ℕ) (at n depth : ℕ) (t : BtinFields) → btin_at b at n depth ≡ Ok t → All (λ (c : ChildFields). c.records ≤ capacity_of (depth - 1)) t.children
 inner_few b p n depth t h =
@@ -121,19 +109,6 @@ inner_few b p n depth t h =
     let tests = block_tests (codes "BTIN") (btin_len n depth) b ++ node_tests b p ++ child_tests b p depth (n + 1) (6 + 24 * n) in
     let passed = checked-passed tests fields t h in
     subst (λ (x : BtinFields). All (λ (c : ChildFields). c.records ≤ capacity_of (depth - 1)) x.children) passed.1 (children_few b p depth (n + 1) (6 + 24 * n) passed.0.1.1.1.1.1)
-
-pub record IsRoot (t : BthdFields) : Type 0 where
-  pub shallow : t.depth ≤ 3
-  pub few : t.records ≤ capacity_of t.depth
-
-pub root_is : (b : List ℕ) (at : ℕ) (t : BthdFields) → bthd_at b at ≡ Ok t → IsRoot t
-root_is b p t h =
-    let passed = checked-passed (bthd_tests b p) (bthd_fields b) t h in
-    let pass = passed.0.1.1.1.1.1.1.1 in
-    subst IsRoot passed.1 (record {
-      shallow = leb-true (field b 12 2) 3 pass.0;
-      few = leb-true (field b 24 2) (capacity_of (field b 12 2)) pass.1.1.1.0;
-    })
 
 -- ---- A node that was read
 

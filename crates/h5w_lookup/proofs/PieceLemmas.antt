@@ -1,10 +1,11 @@
 -- A block in pieces of at most 512 bytes.
-use Rattle.std.proofs.Common.{◌≡◌, ℕ, zero, suc, ◌+◌, ◌-◌, ◌/◌, ◌<◌, ◌≤◌, min, Bool, true, false, cond, List, [], ◌++◌, append_assoc, length, Some, Result, Ok, Err, refl, sym, ◌∙◌, ap, arith, add-one, subst}
+use Rattle.std.proofs.Common.{◌≡◌, ℕ, zero, suc, ◌+◌, ◌-◌, ◌/◌, ◌<◌, ◌≤◌, min, cond, List, [], ◌++◌, append_assoc, length, Some, Result, Ok, Err, refl, sym, ◌∙◌, ap, arith, add-one, subst}
 use Rattle.std.specs.Prelude.{◌==◌}
 use Rattle.std.specs.Result.{IfOk}
 use Rattle.std.proofs.lemmas.List.{append-nil}
 use Rattle.std.proofs.lemmas.Bool.{cond_both, eqb-true, eqb-false}
 use Rattle.h5w_model.specs.Programs.{Prog, ret, whole, counted, stored, bind, and_then, look_pieces, cut_up, below_end, next_look, fed}
+use Rattle.h5w_laws.proofs.LoweringLemmas.{pieces_bind}
 use Rattle.h5w_lookup.specs.Looks.{plain}
 use Rattle.h5w_lookup.specs.Gathering.{gather_from, cut_behind}
 
@@ -60,21 +61,6 @@ fed_gather place rest got b f h = rw (gather_begins place rest got h) refl
 -- and wants the same look
 pub wants_gather : {A : Type 0} (place rest len : ℕ) (got : List ℕ) (f : List ℕ → Prog A) → 0 < rest → len ≡ min 512 rest → next_look (bind (gather_from place rest got) f) ≡ Some (place, len)
 wants_gather place rest len got f h e = ap (λ (p : Prog (List ℕ)). next_look (bind p f)) (gather_begins place rest got h) ∙ ap (λ n. Some (place, n)) (sym e)
-
-cond_apply : {X Y : Type 0} (f : X → Y) (b : Bool) (x y : X) → f (cond b x y) ≡ cond b (f x) (f y)
-cond_apply f true x y = refl
-cond_apply f false x y = refl
-
--- what follows a range comes behind its last piece
-pub pieces_bind : {A B : Type 0} (fuel place len : ℕ) (got : List ℕ) (next : List ℕ → Prog A) (g : A → Prog B)
-    → bind (look_pieces fuel place len got next) g ≡ look_pieces fuel place len got (λ b. bind (next b) g)
-pieces_bind zero place len got next g = refl
-pieces_bind (suc fuel) place zero got next g = refl
-pieces_bind {A} {B} (suc fuel) place (suc rest) got next g =
-    ap (whole place (min 512 (suc rest))) (λ i b. (
-    cond_apply (λ (q : Prog A). bind q g) (length b == min 512 (suc rest)) (look_pieces fuel (place + 512) (suc rest - 512) (got ++ b) next) (next (got ++ b))
-    ∙ ap (λ (q : Prog B). cond (length b == min 512 (suc rest)) q (bind (next (got ++ b)) g)) (pieces_bind fuel (place + 512) (suc rest - 512) (got ++ b) next g)
-    ) i)
 
 -- a block in looks of at most 512 bytes is such a range
 pub cut_up_is : {A : Type 0} (place len : ℕ) (next : List ℕ → Prog A) → cut_up place len next ≡ bind (cut_behind [] place len) next

@@ -5,12 +5,13 @@ use Rattle.h5w_model.specs.Programs.{Prog, ret, stored, and_then, lowered, cut_u
 use Rattle.h5w_model.specs.Numbers.{undefined}
 use Rattle.h5w_model.specs.Arrays.{SlotsFields, EaibFields, super_block_of, place_of, eadb_at, easb_at, slots_len}
 use Rattle.h5w_model.specs.Datasets.{then_also, refused_as}
-use Rattle.h5w_model.specs.Tables.{Reading, array_slot, data_slot, secondary_slot, data_block, secondary_block, super_block_of_first}
+use Rattle.h5w_model.specs.Tables.{Reading, array_slot, data_slot, secondary_slot, data_block, secondary_block}
 use Rattle.h5w_model.specs.declared.cell.Place.{Place}
-use Rattle.h5w_model.specs.declared.cell.Place.TheVariants.{Index, Direct, Second}
+use Rattle.h5w_model.specs.declared.cell.Place.TheVariants.{Index, Second}
 use Rattle.h5w_model.specs.declared.refusal.BlockFault.{BlockFault}
 use Rattle.h5w_model.specs.declared.refusal.ReadError.{ReadError}
 use Rattle.h5w_model.specs.declared.refusal.ReadError.TheVariants.{Damaged}
+use Rattle.h5w_model.proofs.SlotLemmas.{slot_of}
 use Rattle.h5w_lookup.specs.Blocks.{GivesSlots, IsRead}
 use Rattle.h5w_lookup.specs.Seeking.{store_rest, next_rest, data_given, second_given, wait_rest}
 use Rattle.h5w_lookup.specs.Contents.{slots_in}
@@ -116,15 +117,8 @@ second_waits ks w next there none =
 
 -- ---- A chunk
 
-abbrev pub slot_at : EaibFields → Place → Prog (Result ℕ ReadError)
-slot_at e p = elim p [
-  | Index slot ↦ ret (Ok (get_or e.slots slot undefined))
-  | Direct block slot ↦ data_slot (get_or e.first block undefined) (super_block_of (super_block_of_first block)).slots slot
-  | Second sblock block slot ↦ secondary_slot (get_or e.second (sblock - 4) undefined) sblock block slot
-]
-
-pub seek_at : (ks : List Kept) (e : EaibFields) (i : ℕ) (p : Place) (next : ℕ → Prog (Result Reading ReadError)) → place_of i ≡ p → store_rest ks (array_slot e i) next ≡ store_rest ks (slot_at e p) next
-seek_at ks e i p next h = ap (λ q. store_rest ks (slot_at e q) next) h
+pub seek_at : (ks : List Kept) (e : EaibFields) (i : ℕ) (p : Place) (next : ℕ → Prog (Result Reading ReadError)) → place_of i ≡ p → store_rest ks (array_slot e i) next ≡ store_rest ks (slot_of e p) next
+seek_at ks e i p next h = ap (λ q. store_rest ks (slot_of e q) next) h
 
 pub seek_index : (ks : List Kept) (e : EaibFields) (i slot : ℕ) (next : ℕ → Prog (Result Reading ReadError)) → place_of i ≡ Index slot → next_rest ks next (get_or e.slots slot undefined) ≡ store_rest ks (array_slot e i) next
 unfolding store_rest next_rest

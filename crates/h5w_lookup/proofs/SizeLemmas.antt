@@ -33,8 +33,3 @@ few_slots (suc (suc (suc (suc (suc (suc (suc (suc (suc (suc zero)))))))))) h = o
 few_slots (suc (suc (suc (suc (suc (suc (suc (suc (suc (suc (suc zero))))))))))) h = omega arith
 few_slots (suc (suc (suc (suc (suc (suc (suc (suc (suc (suc (suc (suc zero)))))))))))) h = omega arith
 few_slots (suc (suc (suc (suc (suc (suc (suc (suc (suc (suc (suc (suc (suc s))))))))))))) h = absurd (omega arith)
-
--- a super block that is not named by the index block
-pub record IsFar (s : ℕ) : Type 0 where
-  pub low : 4 ≤ s
-  pub high : s ≤ 12

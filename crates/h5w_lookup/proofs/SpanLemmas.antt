@@ -9,6 +9,7 @@ use Rattle.h5w_model.specs.declared.refusal.ReadError.{ReadError}
 use Rattle.h5w_bt.specs.declared.records.Record.{Record}
 use Rattle.h5w_bt.specs.declared.children.Child.{Child}
 use Rattle.h5w_bt.specs.Parts.{record_of, child_of}
+use Rattle.h5w_bt.proofs.KeyLemmas.{below-not_back, above-not_equal}
 use Rattle.h5w_lookup.specs.Blocks.{IsRead, node_len}
 use Rattle.h5w_lookup.specs.Contents.{records_in, inner_in}
 use Rattle.h5w_lookup.specs.Seeking.{store_rest, next_rest}
@@ -18,7 +19,6 @@ use Rattle.h5w_lookup.specs.declared.content.Content.{Content}
 use Rattle.h5w_lookup.specs.declared.content.Turn.TheVariants as turns
 use Rattle.h5w_lookup.specs.declared.span.Span.{Span}
 use Rattle.h5w_lookup.proofs.AheadLemmas.{kept_block, kept_used}
-use Rattle.h5w_lookup.proofs.KeyLemmas.{below_not_back, above_not_equal}
 use Rattle.h5w_lookup.proofs.NodeLemmas.{children_here, node_kept, turn_found}
 use Rattle.h5w_lookup.proofs.PathLemmas.{settled}
 
@@ -29,7 +29,7 @@ pub children_between : (go : ChildFields → Prog (Result ℕ ReadError)) (k : K
     → in_node go k (drop i (map record_of rs)) (drop i (map child_of cs)) ≡ go (child_of (get_or cs i d))
 children_between go k rs cs i r d h l before =
     let key = (get_or rs i r).key in
-    children_here go k rs cs i r d false h l (below_not_back k key before) (above_not_equal k key before)
+    children_here go k rs cs i r d false h l (below-not_back k key before) (above-not_equal k key before)
 
 -- ---- The way to a leaf
 

@@ -32,7 +32,7 @@ cases_eqb a b = elim (cases_Bool (a == b)) [ inl t ↦ inl (eqb-true a b t) | in
 
 -- ---- Known addresses
 
-lt_suc : (m n : ℕ) → nat_lt (suc m) (suc n) ≡ nat_lt m n
+pub lt_suc : (m n : ℕ) → nat_lt (suc m) (suc n) ≡ nat_lt m n
 lt_suc m n = elim (cases_lt m n) [ inl h ↦ lt-ltb (suc m) (suc n) (omega arith) ∙ sym (lt-ltb m n h) | inr h ↦ le-ltb (suc m) (suc n) (omega arith) ∙ sym (le-ltb m n h) ]
 
 -- some key has no known address exactly where there are more than the first that are defined

@@ -6,6 +6,7 @@ use Rattle.std.proofs.Math.Seq.{take-suc, take-length, take-append_seam}
 use Rattle.std.proofs.lemmas.List.{length-append, length-take-le, length-drop, take_all, drop_all, take-append-drop}
 use Rattle.h5w_model.specs.Numbers.{undefined}
 use Rattle.h5w_lookup.specs.Unknown.{absent_from, unknown_at, with_found, put_in}
+use Rattle.h5w_lookup.proofs.TableLemmas.{lt_suc}
 
 pub cases_absent : (a : ℕ) → (a ≡ undefined) ⊎ (a ≢ undefined)
 cases_absent a = elim (cases_Bool (a == undefined)) [ inl t ↦ inl (eqb-true a undefined t) | inr f ↦ inr (eqb-false a undefined f) ]
@@ -236,9 +237,6 @@ put_all t absent found listed h =
 -- it is the next that is absent, and needed
 abbrev pub one_absent : ℕ → ℕ → ℕ → ℕ → List ℕ
 one_absent i u n a = cond (nat_lt u n) (cond (a == undefined) ((i + u) ∷ []) []) []
-
-lt_suc : (m n : ℕ) → nat_lt (suc m) (suc n) ≡ nat_lt m n
-lt_suc m n = elim (cases_lt m n) [ inl h ↦ lt-ltb (suc m) (suc n) (omega arith) ∙ sym (lt-ltb m n h) | inr h ↦ le-ltb (suc m) (suc n) (omega arith) ∙ sym (le-ltb m n h) ]
 
 one_next : (i u n a : ℕ) → one_absent (i + 1) u n a ≡ one_absent i (suc u) (suc n) a
 one_next i u n a = ap (λ c. let none : List ℕ = [] in cond c (cond (a == undefined) ((i + 1 + u) ∷ none) none) none) (sym (lt_suc u n)) ∙ ap (λ k. let none : List ℕ = [] in cond (nat_lt (suc u) (suc n)) (cond (a == undefined) (k ∷ none) none) none) (next_from i u)

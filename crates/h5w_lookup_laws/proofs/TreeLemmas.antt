@@ -1,12 +1,12 @@
 -- The tree lookup, as a program and as a relation.
 use Rattle.std.proofs.Common.{◌≡◌, ◌≢◌, ◌⊎◌, ℕ, zero, suc, ◌+◌, ◌*◌, Bool, true, false, cond, ◌&&◌, eqb, List, [], ◌∷◌, ◌++◌, length, take, Option, Some, Result, Ok, refl, sym, ◌∙◌, ap, subst, inl, inr, arith, codes}
-use Rattle.std.proofs.lemmas.Bool.{eqb-true, eq-eqb}
+use Rattle.std.proofs.lemmas.Bool.{eqb-true, eq-eqb, and_parts}
 use Rattle.std.proofs.lemmas.Bool.Decides.{eqb_tells}
 use Rattle.std.proofs.lemmas.List.Elements.{All-nil, All-cons, All-head, All-tail}
 use Rattle.h5w_model.specs.Numbers.{range, undefined}
 use Rattle.h5w_model.specs.Programs.{Prog, ret, eval}
 use Rattle.h5w_model.specs.Blocks.{block_tests}
-use Rattle.h5w_model.specs.Trees.{RecordFields, ChildFields, BthdFields, BtinFields, bthd_at, btlf_at, btin_at, bthd_len, btlf_len, btin_len, btin_fields, records_in, children_in, node_tests, child_tests, pointer_size}
+use Rattle.h5w_model.specs.Trees.{RecordFields, ChildFields, BthdFields, BtinFields, bthd_at, btlf_at, btin_at, bthd_len, btlf_len, btin_len, btin_fields, node_tests, child_tests}
 use Rattle.h5w_model.specs.Datasets.{refused_as}
 use Rattle.h5w_model.specs.Tables.{InPlace, nowhere, in_tree, tree_in_place, address_behind, tree_lookup, in_leaf, in_node, key_equal, key_below}
 use Rattle.h5w_model.specs.declared.cell.Key.{Key}
@@ -16,17 +16,14 @@ use Rattle.h5w_model.proofs.CheckedLemmas.{checked-passed}
 use Rattle.h5w_laws.proofs.ResultLemmas.{then_ok, then_from, refused_ok, and_then_ok, and_then_from, choice_ok, choice_from}
 use Rattle.h5w_laws.proofs.SlotLemmas.{refused_from}
 use Rattle.h5w_model.specs.Relations.{LeafSlot, IsPlaceOf, NodeSlot, TreeSlot, TreeChunk}
+use Rattle.h5w_laws.proofs.NodeLemmas.{length-records_in, length-children_in}
 use Rattle.h5w_lookup_laws.specs.Relations.{tree_chunk, FindsTreeSlots}
 
 -- ---- Keys
 
-both : (s t : Bool) → (s && t) ≡ true → (s ≡ true) × (t ≡ true)
-both true t h = (refl, h)
-both false t h = absurd cc
-
 key_same : (a b : Key) → key_equal a b ≡ true → a ≡ b
 key_same a b h =
-    let t = both (eqb a.i b.i) (eqb a.j b.j) h in
+    let t = and_parts (eqb a.i b.i) (eqb a.j b.j) h in
     let row = eqb-true a.i b.i t.0 in
     let column = eqb-true a.j b.j t.1 in
     λ p. record { i = row p; j = column p }
@@ -157,14 +154,6 @@ node_by key rs cs A B x f (i, p, inl u) = (i, p, inl u)
 node_by key rs cs A B x f (i, p, inr u) = (i, p, inr (u.0, (u.1.0, u.1.1, f u.1.0 u.1.2)))
 
 -- ---- The node of a depth
-
-length-records_in : (b : List ℕ) (n place : ℕ) → length (records_in b n place) ≡ n
-length-records_in b zero place = refl
-length-records_in b (suc n) place = ap suc (length-records_in b n (place + 24))
-
-length-children_in : (b : List ℕ) (depth n place : ℕ) → length (children_in b depth n place) ≡ n
-length-children_in b depth zero place = refl
-length-children_in b depth (suc n) place = ap suc (length-children_in b depth n (place + pointer_size depth))
 
 -- an inner node has one child more than records
 one_more : (b : List ℕ) (place n depth : ℕ) (t : BtinFields) → btin_at b place n depth ≡ Ok t → length t.children ≡ length t.records + 1

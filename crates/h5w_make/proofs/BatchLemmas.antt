@@ -35,7 +35,8 @@ use Rattle.h5w_make.specs.States.{HasPlace, IsAfter, IsAppended, IsClosed, IsTak
 use Rattle.h5w_make.proofs.EventLemmas.{appended_batches, cutting, load_bound, spent_showing}
 use Rattle.h5w_session.proofs.FlushCalls.{takes_named}
 use Rattle.h5w_headline.proofs.ShowingLemmas.{appended_showing, hist_showing}
-use Rattle.h5w_session_laws.proofs.PieceLemmas.{after_pending, freed_limit, itself, none_some, onward, some_is}
+use Rattle.h5w_session.proofs.StateLemmas.{some_is}
+use Rattle.h5w_session_laws.proofs.PieceLemmas.{after_pending, freed_limit, itself, none_some, onward}
 
 -- ---- Once all pieces became visible
 

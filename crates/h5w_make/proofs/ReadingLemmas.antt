@@ -14,6 +14,7 @@ use Rattle.h5w_laws.specs.Programs.{looks_on}
 use Rattle.h5w_laws.specs.Several.{alone}
 use Rattle.h5w_laws.proofs.OneNameLemmas.{one_name}
 use Rattle.h5w_laws.proofs.LookLemmas.{takes_on}
+use Rattle.h5w_laws.proofs.ResultLemmas.{ok_is, ok_err}
 use Rattle.h5w_headline.proofs.EndLemmas.{plain_values}
 use Rattle.h5w_headline.proofs.StillReads.{still_reads}
 use Rattle.h5w_reader.specs.Readers.{BegunRead, StepTells, IsRefused, IsRows, reader_rules}
@@ -92,12 +93,6 @@ rows_are a b e = ap (rows_answer a) (left_is (rows_left (ret a)) (rows_left (ret
 values_same : (a b : Result (List ℤ) ReadError) → ◌≡◌ {A = Option Unfinished} (Some (values_left (ret a))) (Some (values_left (ret b))) → a ≡ b
 unfolding values_answer
 values_same a b e = ap (values_answer a) (left_is (values_left (ret a)) (values_left (ret b)) e)
-
-ok_is : {A E : Type 0} (a b : A) → ◌≡◌ {A = Result A E} (Ok a) (Ok b) → a ≡ b
-ok_is a b e = cc
-
-ok_err : {A E : Type 0} (a : A) (e : E) → ◌≡◌ {A = Result A E} (Ok a) (Err e) → ⊥
-ok_err a e h = cc
 
 rows_or_values : (a : Result Reading ReadError) (b : Result (List ℤ) ReadError) → ◌≡◌ {A = Option Unfinished} (Some (rows_left (ret a))) (Some (values_left (ret b))) → ⊥
 rows_or_values a b e = cc

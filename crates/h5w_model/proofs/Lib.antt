@@ -15,3 +15,5 @@ pub mod ArrayGeometry
 pub mod LayoutLemmas
 pub mod HeaderRoundTrip
 pub mod LinkLemmas
+pub mod PieceLemmas
+pub mod SlotLemmas

@@ -2,11 +2,10 @@
 use Rattle.std.proofs.Common.{◌≡◌, ℕ, suc, List, [], ◌∷◌, length, Option, Some, None, Result, Ok, Err, refl, sym, ◌∙◌, ap, subst}
 use Rattle.h5w_model.specs.Datasets.{FoundMessage, linked, all_linked, same_link, then_also, refused_as}
 use Rattle.h5w_model.specs.declared.refusal.ReadError.{ReadError}
-use Rattle.h5w_found.specs.Linked.{Led, led_by}
+use Rattle.h5w_found.specs.Linked.{Led, led_by, LinksAre}
 use Rattle.h5w_found.proofs.RanLemmas.{step_ok, step_err}
 use Rattle.h5w_opening.specs.Fronts.{places_by, unlike}
-use Rattle.h5w_opening.specs.declared.error.OpenError.{OpenError}
-use Rattle.h5w_opening.specs.declared.error.OpenError.TheVariants.{Read, Same}
+use Rattle.h5w_opening.specs.declared.error.OpenError.TheVariants.{Read}
 
 -- the places, where no name is refused
 by_led : List ℕ → Option ReadError → Result (List ℕ) ReadError
@@ -31,10 +30,6 @@ all_led : (names : List (List ℕ)) (ms : List FoundMessage) → all_linked name
 unfolding by_led
 all_led [] ms = refl
 all_led (name ∷ names) ms = first (linked name ms) (all_linked names ms) (led_by (λ name. linked name ms) names) (all_led names ms)
-
--- where these are the places, and that is what is refused
-abbrev pub LinksAre : List (List ℕ) → List FoundMessage → List ℕ → Option ReadError → Type 0
-LinksAre names ms places refused = (places, refused) ≡ led_by (λ name. linked name ms) names
 
 told : (names : List (List ℕ)) (ms : List FoundMessage) (places : List ℕ) (refused : Option ReadError) → LinksAre names ms places refused → all_linked names ms ≡ by_led places refused
 told names ms places refused e = all_led names ms ∙ ap (λ (l : Led). by_led l.0 l.1) (sym e)

@@ -13,10 +13,10 @@ use Rattle.h5w_model.specs.Datasets.{Described}
 use Rattle.h5w_model.specs.Tables.{Reading, cell, cell_offset, chunk_number}
 use Rattle.h5w_model.specs.Findings.{chunk_bytes}
 use Rattle.h5w_model.proofs.ImageLemmas.{At-range, length-range, range-At}
-use Rattle.h5w_steps.proofs.MomentLemmas.{cell_within}
+use Rattle.h5w_steps.proofs.MomentLemmas.{cell_within, value_of}
 use Rattle.h5w_packing_laws.specs.Sources.{IsSource}
+use Rattle.h5w_packing_laws.proofs.MapLemmas.{Tells}
 use Rattle.h5w_packing.specs.Plans.{SameDataset}
-use Rattle.h5w_packing.proofs.TableLemmas.{Tells}
 
 -- the same dataset, whose index stands elsewhere
 abbrev pub moved : Described → ℕ → ℕ → Described
@@ -27,10 +27,6 @@ same_is_moved d e s = λ i. record { shape = s.shape i; int_type = s.int_type i;
 
 pub bytes_same : (d e : Described) → SameDataset d e → chunk_bytes e ≡ chunk_bytes d
 bytes_same d e s = ap chunk_bytes (same_is_moved d e s)
-
--- the value of these bytes
-abbrev value_of : Described → List ℕ → Option ℤ
-value_of d b = if length b == d.int_type.size then Some (value_at b d.int_type) else None
 
 -- Chunk for chunk the same bytes stand in the new file.
 module _ (img to : List ℕ) (r : Reading) (new : List ℕ) (source : IsSource img r) (absent : (n : ℕ) → get_or r.table n undefined ≡ undefined → get_or new n undefined ≡ undefined)

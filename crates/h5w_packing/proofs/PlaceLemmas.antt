@@ -2,7 +2,6 @@
 use Rattle.std.proofs.Common.{◌≡◌, ◌≢◌, ◌⊎◌, ℕ, zero, suc, ◌+◌, ◌*◌, ◌/◌, ◌%◌, ◌<◌, ◌≤◌, ◌^◌, List, [], ◌∷◌, ◌++◌, length, length-append, refl, sym, ◌∙◌, ap, subst, inl, inr, arith, append-nil, append_assoc}
 use Rattle.std.specs.Prelude.{◌==◌, drop, slice_index_or}
 use Rattle.std.proofs.Math.Nat.{div-lt_iff_lt-mul, mod-lt}
-use Rattle.std.proofs.lemmas.Bool.{cond-false, cond-true, eq-eqb, ne_eqb}
 use Rattle.std.proofs.lemmas.List.{drop_all, drop_more}
 use Rattle.std.proofs.lemmas.List.Sorted.{length_permutation}
 use Rattle.h5w_model.specs.Numbers.{undefined}
@@ -21,6 +20,7 @@ use Rattle.h5w_index.specs.Steps.{IsDeep, IsHeld, IsSet}
 use Rattle.h5w_index.proofs.DepthLemmas.{depth_laws}
 use Rattle.h5w_index.proofs.ToldLemmas.{held_tells, set_tells}
 use Rattle.h5w_packing_laws.specs.Growing.{AreNamed, IsNamedNext, IsTight, named_from}
+use Rattle.h5w_packing_laws.proofs.MapLemmas.{chunk_there, chunk_absent}
 use Rattle.h5w_packing.specs.Plans.{IsChunkOut, IsNextOut, IsOfKind, TakesAll, chunks_end, copied_from, key_lines, packed_table}
 use Rattle.h5w_packing.specs.declared.job.Copied.{Copied}
 use Rattle.h5w_packing.proofs.TableLemmas.{copied_absent, copied_there, end_absent, end_there, table_absent, table_there}
@@ -80,12 +80,6 @@ kind_stays d n address u v w low sound_u sound_v kind held slot defined sets =
 
 -- ---- One after another
 
-named_absent : (d : Described) (n a : ℕ) (rest : List ℕ) → a ≡ undefined → named_from d n (a ∷ rest) ≡ named_from d (n + 1) rest
-named_absent d n a rest e = cond-true (a == undefined) _ _ (eq-eqb a undefined e)
-
-named_there : (d : Described) (n a : ℕ) (rest : List ℕ) → a ≢ undefined → named_from d n (a ∷ rest) ≡ (index_key d n, a) ∷ named_from d (n + 1) rest
-named_there d n a rest there = cond-false (a == undefined) _ _ (ne_eqb a undefined there)
-
 -- The first n chunks of a table have their places, and the index names them.
 pub record IsHalfway (d : Described) (table : List ℕ) (s : Space) (u : IndexView) (n : ℕ) (places : Space) (v : IndexView) (chunks : List Copied) : Type 0 where
   pub sound : IsSound v
@@ -121,7 +115,7 @@ module _ (d : Described) (table : List ℕ) (s : Space) (u : IndexView) (n : ℕ
       let a : ℕ = slice_index_or table n 0 in
       let rest : List ℕ = drop (n + 1) table in
       let here : packed_table bytes places.end (drop n table) ≡ undefined ∷ packed_table bytes places.end rest = ap (packed_table bytes places.end) (more inside) ∙ table_absent bytes places.end a rest absent in
-      let names : named_from d n (packed_table bytes places.end (drop n table)) ≡ named_from d (n + 1) (packed_table bytes places.end rest) = ap (named_from d n) here ∙ named_absent d n undefined (packed_table bytes places.end rest) refl in
+      let names : named_from d n (packed_table bytes places.end (drop n table)) ≡ named_from d (n + 1) (packed_table bytes places.end rest) = ap (named_from d n) here ∙ chunk_absent d n undefined (packed_table bytes places.end rest) refl in
       record {
         sound = h.sound;
         takes = h.takes;
@@ -147,7 +141,7 @@ module _ (d : Described) (table : List ℕ) (s : Space) (u : IndexView) (n : ℕ
       let here : packed_table bytes places.end (drop n table) ≡ places.end ∷ packed_table bytes t.end rest =
       ap (packed_table bytes places.end) (more inside) ∙ table_there bytes places.end a rest there ∙ ap (λ m. places.end ∷ packed_table bytes m rest) (sym end) in
       let names : named_from d n (packed_table bytes places.end (drop n table)) ≡ (index_key d n, places.end) ∷ named_from d (n + 1) (packed_table bytes t.end rest) =
-      ap (named_from d n) here ∙ named_there d n places.end (packed_table bytes t.end rest) defined in
+      ap (named_from d n) here ∙ chunk_there d n places.end (packed_table bytes t.end rest) defined in
       let copies : copied_from bytes places.end (drop n table) ≡ one ∷ copied_from bytes t.end rest =
       ap (copied_from bytes places.end) (more inside) ∙ copied_there bytes places.end a rest there ∙ ap (λ m. one ∷ copied_from bytes m rest) (sym end) in
       let all : others ≡ chunks ++ one ∷ [] = put ∙ ap (λ m. chunks ++ record { from = a; to = m; len = bytes } ∷ []) is in

@@ -13,9 +13,10 @@ use Rattle.h5w_array_laws.specs.ArrayStores.{chunks_in}
 use Rattle.h5w_array_laws.proofs.AmongLemmas.{chunks_some, chunks_undefined}
 use Rattle.h5w_packing_laws.specs.Growing.{RangesFrom}
 use Rattle.h5w_packing_laws.specs.Packing.{tops_of}
+use Rattle.h5w_packing_laws.proofs.MapLemmas.{Tells}
 use Rattle.h5w_packing.specs.Plans.{chunks_end, copied_from, packed_table}
 use Rattle.h5w_packing.specs.declared.job.Copied.{Copied}
-use Rattle.h5w_packing.proofs.TableLemmas.{Tells, chunk_blocks, copied_absent, copied_there, end_absent, end_rises, end_there, table_absent, table_there}
+use Rattle.h5w_packing.proofs.TableLemmas.{chunk_blocks, copied_absent, copied_there, end_absent, end_rises, end_there, table_absent, table_there}
 
 abbrev pub plain : List Used → List Used
 plain us = map (λ (u : Used). block_at u.place u.len) us

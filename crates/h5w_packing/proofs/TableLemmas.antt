@@ -1,5 +1,5 @@
 -- The chunks of a table in their new places: their ranges stand one behind the other, and each has its own.
-use Rattle.std.proofs.Common.{◌≡◌, ◌≢◌, ◌⊎◌, ℕ, zero, suc, ◌+◌, ◌<◌, ◌≤◌, ◌^◌, true, false, List, [], ◌∷◌, get_or, length, refl, sym, ◌∙◌, ap, subst, inl, inr, arith}
+use Rattle.std.proofs.Common.{◌≡◌, ◌≢◌, ◌⊎◌, ℕ, zero, suc, ◌+◌, ◌<◌, ◌≤◌, ◌^◌, List, [], ◌∷◌, get_or, length, refl, sym, ◌∙◌, ap, subst, inl, inr, arith}
 use Rattle.std.specs.Prelude.{◌==◌, map}
 use Rattle.std.specs.List.{All}
 use Rattle.std.proofs.lemmas.Bool.{cond-false, cond-true, eq-eqb, ne_eqb}
@@ -12,13 +12,10 @@ use Rattle.h5w_visits.specs.Ranges.{chunk_at}
 use Rattle.h5w_array_laws.specs.ArrayStores.{chunks_in}
 use Rattle.h5w_array_laws.proofs.AmongLemmas.{chunks_some, chunks_undefined}
 use Rattle.h5w_packing_laws.specs.Growing.{RangesFrom}
+use Rattle.h5w_packing_laws.proofs.MapLemmas.{Tells}
 use Rattle.h5w_packing.specs.Jobs.{EndsLow}
 use Rattle.h5w_packing.specs.Plans.{chunks_end, copied_from, packed_table}
 use Rattle.h5w_packing.specs.declared.job.Copied.{Copied}
-
--- whether an address is there
-abbrev pub Tells : ℕ → Type 0
-Tells a = (((a == undefined) ≡ true) × (a ≡ undefined)) ⊎ (((a == undefined) ≡ false) × (a ≢ undefined))
 
 -- ---- One chunk and the others
 

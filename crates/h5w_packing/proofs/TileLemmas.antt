@@ -19,10 +19,11 @@ use Rattle.h5w_array_laws.proofs.AmongLemmas.{chunks_some, chunks_undefined}
 use Rattle.h5w_array_laws.proofs.FreshLemmas.{fresh_copy, fresh_in_place}
 use Rattle.h5w_packing_laws.specs.Growing.{RangesFrom}
 use Rattle.h5w_packing_laws.specs.Packing.{tops_of}
+use Rattle.h5w_packing_laws.proofs.MapLemmas.{Tells}
 use Rattle.h5w_packing.specs.Plans.{block_kind, chunk_tiles, chunks_end, copied_from, front_tiles, index_tiles, move_tiles, packed_table, tile}
 use Rattle.h5w_packing.specs.Whole.{chunk_kind}
 use Rattle.h5w_packing.specs.declared.job.Copied.{Copied}
-use Rattle.h5w_packing.proofs.TableLemmas.{Tells, copied_absent, copied_there, end_absent, end_rises, end_there, table_absent, table_there}
+use Rattle.h5w_packing.proofs.TableLemmas.{copied_absent, copied_there, end_absent, end_rises, end_there, table_absent, table_there}
 
 abbrev used : TileFields → Used
 used = used_of chunk_kind

@@ -11,12 +11,13 @@ use Rattle.h5w_space.specs.Space.{Space}
 use Rattle.h5w_cache.specs.Plans.{IsPlan, bytes_in, bytes_of}
 use Rattle.h5w_cache.specs.Stores.{Store, place_of}
 use Rattle.h5w_cache.specs.declared.moves.Move.{Move}
+use Rattle.h5w_cache.proofs.LawLemmas.{no_move}
 use Rattle.h5w_array_laws.specs.Parts.{length_of, stays_in_place}
 use Rattle.h5w_array_laws.specs.ArrayStores as arrays
 use Rattle.h5w_array_laws.specs.ArrayStores.{IsArray, place_at_part}
 use Rattle.h5w_array_laws.specs.ArrayPlans.{fresh}
 use Rattle.h5w_array_laws.proofs.FreshLemmas.{fresh_copy, fresh_in_place, moves_on}
-use Rattle.h5w_array_laws.proofs.StoreLemmas.{move_at, new_at, no_move}
+use Rattle.h5w_array_laws.proofs.StoreLemmas.{move_at, new_at}
 use Rattle.h5w_array_flushes.proofs.ArrayPlaceLemmas.{PartOf, behind_part, in_place_as, part_of}
 use Rattle.h5w_bt_nodes.specs.Nodes.{Tree}
 use Rattle.h5w_bt_nodes.specs.Blocks.{changes, each_by, place_of as node_place, placed, stood}

@@ -7,8 +7,9 @@ use Rattle.h5w_model.specs.Findings.{Used}
 use Rattle.h5w_model.specs.declared.cell.Key.{Key}
 use Rattle.h5w_visits.specs.Ranges.{Among, chunk_at}
 use Rattle.h5w_visits.proofs.RangeLemmas.{among_left, among_right, among_split}
+use Rattle.h5w_steps.proofs.PartLemmas.{count_joined}
 use Rattle.h5w_array_laws.specs.Among.{AreAmong}
-use Rattle.h5w_array_laws.proofs.AmongLemmas.{count_joined, part_itself, part_joined, part_onward}
+use Rattle.h5w_array_laws.proofs.AmongLemmas.{part_itself, part_joined, part_onward}
 use Rattle.h5w_index.specs.Views.{IndexView, HasSlot, IsSound, address_in, behind_of, is_key}
 use Rattle.h5w_index.specs.Told.{IsLike, SetTold}
 use Rattle.h5w_index.proofs.NamingLemmas.{same_among}

@@ -21,14 +21,14 @@ use Rattle.h5w_index.proofs.PartlyLemmas.{apart_keys, own_key}
 use Rattle.h5w_packing_laws.specs.Growing.{named_from}
 use Rattle.h5w_packing_laws.proofs.GrownLemmas.{address_after, chunks_of}
 
-chunk_there : (d : Described) (n a : ℕ) (rest : List ℕ) → a ≢ undefined → named_from d n (a ∷ rest) ≡ (index_key d n, a) ∷ named_from d (n + 1) rest
+pub chunk_there : (d : Described) (n a : ℕ) (rest : List ℕ) → a ≢ undefined → named_from d n (a ∷ rest) ≡ (index_key d n, a) ∷ named_from d (n + 1) rest
 chunk_there d n a rest there = cond-false (a == undefined) _ _ (ne_eqb a undefined there)
 
-chunk_absent : (d : Described) (n a : ℕ) (rest : List ℕ) → a ≡ undefined → named_from d n (a ∷ rest) ≡ named_from d (n + 1) rest
+pub chunk_absent : (d : Described) (n a : ℕ) (rest : List ℕ) → a ≡ undefined → named_from d n (a ∷ rest) ≡ named_from d (n + 1) rest
 chunk_absent d n a rest e = cond-true (a == undefined) _ _ (eq-eqb a undefined e)
 
 -- whether an address is there
-abbrev Tells : ℕ → Type 0
+abbrev pub Tells : ℕ → Type 0
 Tells a = (((a == undefined) ≡ true) × (a ≡ undefined)) ⊎ (((a == undefined) ≡ false) × (a ≢ undefined))
 
 -- ---- Ranges

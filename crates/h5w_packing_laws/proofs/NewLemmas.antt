@@ -26,7 +26,7 @@ use Rattle.h5w_flush_laws.specs.Parts.{block_writes}
 use Rattle.h5w_flush_laws.specs.Spaces.{AllLive}
 use Rattle.h5w_array_laws.specs.Parts.{index_block, number_of}
 use Rattle.h5w_array_laws.specs.ArrayStores as arrays
-use Rattle.h5w_array_laws.specs.ArrayStores.{IsArray, IsCreated, place_at_part}
+use Rattle.h5w_array_laws.specs.ArrayStores.{IsArray, IsCreated}
 use Rattle.h5w_array_laws.specs.ArrayImages.{StandsArray}
 use Rattle.h5w_array_laws.specs.ArrayPlans.{IsArrayPlan}
 use Rattle.h5w_array_laws.proofs.CreatedLemmas.{created_stands, created_starts}
@@ -52,6 +52,7 @@ use Rattle.h5w_index.specs.Flushes.{AreCopies, IsWhole}
 use Rattle.h5w_index.proofs.FlushLemmas.{plan_tells}
 use Rattle.h5w_creation.specs.Made.{IsNewIndex, index_writes}
 use Rattle.h5w_tree_starting_laws.specs.TreeStarting.{IsUnwritten}
+use Rattle.h5w_tree_starting_laws.proofs.TreeStartCallLemmas.{index_of_part}
 use Rattle.h5w_packing_laws.specs.Growing.{own_blocks}
 use Rattle.h5w_packing_laws.proofs.AgainLemmas.{AllFilled, blocks_again, writes_again}
 use Rattle.h5w_packing_laws.proofs.GrownLemmas.{GrownTold}
@@ -108,9 +109,6 @@ array_stands d at block u v w cs s t ms copies fixed img low lower created live 
     subst (λ (y : List ℕ). StandsArray w y) (ap (λ (ws : List Write). image img (ws ++ fixed)) (sym part.writes) ∙ same) all
 
 -- ---- A tree
-
-index_of_part : Part → Index
-index_of_part p = record { depth = p.depth; root = p.tree }
 
 never_there : (v : Index) (key : Key) → part_of v.depth v.root ≡ blank → IsThere v key → ⊥
 unfolding index_of_part

@@ -4,8 +4,8 @@ use Rattle.std.proofs.lemmas.List.Sums.{sum_by-cons}
 use Rattle.h5w_model.specs.Findings.{Used}
 use Rattle.h5w_visits.specs.Ranges.{AllEndBy, AllSome, Among, Disjoint}
 use Rattle.h5w_visits.proofs.RangeLemmas.{among_left, among_right, among_split}
+use Rattle.h5w_steps.proofs.PartLemmas.{count_joined}
 use Rattle.h5w_array_laws.specs.Among.{AreAmong}
-use Rattle.h5w_array_laws.proofs.AmongLemmas.{count_joined}
 use Rattle.h5w_creation_laws.proofs.StackLemmas.{Stacked, stacked_apart}
 use Rattle.h5w_packing_laws.specs.Growing.{RangesFrom}
 

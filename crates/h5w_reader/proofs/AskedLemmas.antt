@@ -56,26 +56,26 @@ values_inside : (x : Option (Prog (Result (List ℤ) ReadError))) (t : Prog (Res
 values_inside None t e = absurd cc
 values_inside (Some y) t e = let same : y ≡ t = cc in ap Some same
 
-no_values : (x : Option (Prog (Result (List ℤ) ReadError))) (t : Prog (Result Reading ReadError)) → option_map values_left x ≡ Some (rows_left t) → ⊥
+pub no_values : (x : Option (Prog (Result (List ℤ) ReadError))) (t : Prog (Result Reading ReadError)) → option_map values_left x ≡ Some (rows_left t) → ⊥
 no_values None t e = cc
 no_values (Some y) t e = cc
 
-no_rows : (x : Option (Prog (Result Reading ReadError))) (t : Prog (Result (List ℤ) ReadError)) → option_map rows_left x ≡ Some (values_left t) → ⊥
+pub no_rows : (x : Option (Prog (Result Reading ReadError))) (t : Prog (Result (List ℤ) ReadError)) → option_map rows_left x ≡ Some (values_left t) → ⊥
 no_rows None t e = cc
 no_rows (Some y) t e = cc
 
-rows_more : (p : Prog (Result Reading ReadError)) (ls : List Look) (l : Look) (x : Option (Prog (Result Reading ReadError))) → rest_after p ls ≡ x → wanted (option_map rows_left x) ≡ Some (l.place, l.len)
+pub rows_more : (p : Prog (Result Reading ReadError)) (ls : List Look) (l : Look) (x : Option (Prog (Result Reading ReadError))) → rest_after p ls ≡ x → wanted (option_map rows_left x) ≡ Some (l.place, l.len)
     → option_map rows_left (rest_after p (ls ++ l ∷ [])) ≡ option_map (fed_left l.bytes) (option_map rows_left x)
 rows_more p ls l None e next = absurd cc
 rows_more p ls l (Some t) e next = ap (option_map rows_left) (rest_more p t ls l e next)
 
-values_more : (p : Prog (Result (List ℤ) ReadError)) (ls : List Look) (l : Look) (x : Option (Prog (Result (List ℤ) ReadError))) → rest_after p ls ≡ x → wanted (option_map values_left x) ≡ Some (l.place, l.len)
+pub values_more : (p : Prog (Result (List ℤ) ReadError)) (ls : List Look) (l : Look) (x : Option (Prog (Result (List ℤ) ReadError))) → rest_after p ls ≡ x → wanted (option_map values_left x) ≡ Some (l.place, l.len)
     → option_map values_left (rest_after p (ls ++ l ∷ [])) ≡ option_map (fed_left l.bytes) (option_map values_left x)
 values_more p ls l None e next = absurd cc
 values_more p ls l (Some t) e next = ap (option_map values_left) (rest_more p t ls l e next)
 
 -- what is left after one look more
-left_more : (ls : List Look) (p : Unfinished) (l : Look) → wanted (left_after ls p) ≡ Some (l.place, l.len) → left_after (ls ++ l ∷ []) p ≡ option_map (fed_left l.bytes) (left_after ls p)
+pub left_more : (ls : List Look) (p : Unfinished) (l : Look) → wanted (left_after ls p) ≡ Some (l.place, l.len) → left_after (ls ++ l ∷ []) p ≡ option_map (fed_left l.bytes) (left_after ls p)
 left_more ls (rows_left p) l next = rows_more p ls l (rest_after p ls) refl next
 left_more ls (values_left p) l next = values_more p ls l (rest_after p ls) refl next
 

@@ -57,9 +57,6 @@ cells_between a b size h =
 pub cells_behind : (a j size : ℕ) → (a + j) * size - a * size ≡ j * size
 cells_behind a j size = let e : (a + j) * size ≡ a * size + j * size = grind arith in omega arith
 
-pub some_bytes : (n size : ℕ) → 0 < n → 0 < size → 0 < n * size
-some_bytes n size h g = grind arith
-
 pub range_split : (a n m : ℕ) → range_with_len a (n + m) ≡ range_with_len a n ++ range_with_len (a + n) m
 range_split a zero m = ap (range_with_len a) (let e : 0 + m ≡ m = omega arith in e) ∙ ap (λ b. range_with_len b m) (let e : a ≡ a + 0 = omega arith in e)
 range_split a (suc n) m =

@@ -27,7 +27,7 @@ use Rattle.h5w_reader.specs.Calling.{came, place_rest, behind_rest, messages_res
 use Rattle.h5w_laws.specs.Programs.{IsUnstored}
 use Rattle.h5w_laws.proofs.AnswerLemmas.{unstored_place, unstored_dataset_messages, unstored_and_then}
 use Rattle.h5w_lookup.proofs.PieceLemmas.{plain_bind, then_assoc}
-use Rattle.h5w_reader.proofs.UnstoredLemmas.{unstored_plain, unstored_then}
+use Rattle.h5w_reader.proofs.UnstoredLemmas.{unstored_plain, unstored_then, after}
 
 -- ---- One program after another
 
@@ -47,9 +47,6 @@ fed_bind (stored kind at len next) f b l e = absurd cc
 -- a look of that length
 pub fits_bind : {A B : Type 0} (p : Prog A) (f : A → Prog B) (n : ℕ) (l : ℕ × ℕ) → next_look p ≡ Some l → IsWithinLook (next_look (bind p f)) n → IsWithinLook (next_look p) n
 fits_bind p f n l e h = subst (λ x. IsWithinLook x n) (wants_bind p f l e ∙ sym e) h
-
-after : {A B E : Type 0} → (A → Prog (Result B E)) → Result A E → Prog (Result B E)
-after f r = elim r [ Ok a ↦ f a | Err e ↦ ret (Err e) ]
 
 after_plain : {A B E : Type 0} (f : A → Prog (Result B E)) (r : Result A E) → plain (after f r) ≡ after (λ a. plain (f a)) r
 unfolding after

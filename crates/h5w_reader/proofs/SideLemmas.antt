@@ -255,9 +255,6 @@ get_or-last [] o (suc j) b h = absurd cc
 get_or-last (x ∷ os) o zero b h = inl h
 get_or-last (x ∷ os) o (suc j) b h = elim (get_or-last os o j b h) [ inl k ↦ inl k | inr k ↦ inr (ap suc k.0, k.1) ]
 
-pub none_whole : (d : Described) (i from to : ℕ) → AreWhole d i from to []
-none_whole d i from to = λ j b h. absurd cc
-
 pub whole_none : (d : Described) (i from to : ℕ) (os : List (Option (List ℕ))) → AreWhole d i from to os → AreWhole d i from to (os ++ None ∷ [])
 whole_none d i from to os all = λ j b h. elim (get_or-last os None j b h) [ inl k ↦ all j b k | inr k ↦ (let z = k.1 in absurd cc) ]
 

@@ -2,8 +2,8 @@
 use Rattle.std.proofs.Common.{◌+◌, ◌/◌, [], ℕ, List, Result, Ok, Err, ◌≡◌, refl, sym, ◌∙◌, ap}
 use Rattle.h5w_model.specs.Programs.{Prog, ret, whole, counted, stored, bind, and_then, cut_up, below_end, Kept, lowered}
 use Rattle.h5w_laws.specs.Programs.{IsUnstored}
+use Rattle.h5w_laws.proofs.LoweringLemmas.{pieces_bind}
 use Rattle.h5w_lookup.specs.Looks.{plain}
-use Rattle.h5w_lookup.proofs.PieceLemmas.{pieces_bind}
 
 -- no store changes them
 pub unstored_plain : {A : Type 0} (cap : ℕ) (ks : List Kept) (p : Prog A) → IsUnstored p → lowered cap ks p ≡ plain p
@@ -21,7 +21,7 @@ unstored_bind cap ks (whole at len next) f h =
 unstored_bind cap ks (counted at counts next) f h = ap (whole at (below_end at 512)) (λ i b. unstored_bind cap ks (next (counts b)) f (h (counts b)) i)
 unstored_bind cap ks (stored kind at len next) f h = absurd h
 
-after : {A B E : Type 0} → (A → Prog (Result B E)) → Result A E → Prog (Result B E)
+unfoldable pub after : {A B E : Type 0} → (A → Prog (Result B E)) → Result A E → Prog (Result B E)
 after f r = elim r [ Ok a ↦ f a | Err e ↦ ret (Err e) ]
 
 after_lowered : {A B E : Type 0} (cap : ℕ) (ks : List Kept) (f : A → Prog (Result B E)) (r : Result A E) → lowered cap ks (after f r) ≡ after (λ a. lowered cap ks (f a)) r

@@ -1,11 +1,10 @@
 -- The messages of a header, one after another.
-use Rattle.std.proofs.Common.{◌≡◌, ℕ, zero, suc, ◌+◌, ◌-◌, ◌<◌, ◌≤◌, ◌⊎◌, inl, inr, Bool, true, false, cond, ltb, List, [], ◌∷◌, ◌++◌, length, map, reverse, Result, Ok, Err, refl, sym, ◌∙◌, ap, subst, min, arith}
+use Rattle.std.proofs.Common.{◌≡◌, ℕ, zero, suc, ◌+◌, ◌-◌, ◌<◌, ◌≤◌, ◌⊎◌, inl, inr, Bool, true, false, cond, ltb, List, [], ◌∷◌, ◌++◌, length, Result, Ok, Err, refl, sym, ◌∙◌, ap, arith}
 use Rattle.std.specs.Prelude.{◌==◌}
-use Rattle.std.proofs.lemmas.List.{reverse-append, map-append}
 use Rattle.std.proofs.lemmas.Bool.{lt-ltb, le-ltb, ne_eqb}
-use Rattle.h5w_model.specs.Programs.{Prog, ret, whole, bind, and_then, cut_up, fed, next_look}
+use Rattle.h5w_model.specs.Programs.{Prog, ret, whole, bind, and_then, cut_up}
 use Rattle.h5w_model.specs.Headers.{block_at, messages_at}
-use Rattle.h5w_model.specs.Datasets.{Range, HeaderFields, found_at, block_place, block_len, block_messages, splice, walk, header_refusal}
+use Rattle.h5w_model.specs.Datasets.{Range, HeaderFields, found_at, block_place, block_len, block_messages, walk, header_refusal}
 use Rattle.h5w_model.specs.Datasets as model
 use Rattle.h5w_model.specs.declared.message.Msg.{Msg}
 use Rattle.h5w_model.specs.declared.refusal.ReadError.{ReadError}
@@ -14,22 +13,16 @@ use Rattle.h5w_model.specs.declared.refusal.BlockFault.TheVariants.{Cut}
 use Rattle.h5w_model.specs.declared.refusal.HeaderError.{HeaderError}
 use Rattle.h5w_model.specs.declared.refusal.HeaderError.TheVariants.{Continuations, Short}
 use Rattle.h5w_model.specs.declared.refusal.HeaderError.TheVariants as header_errors
-use Rattle.h5w_lookup.specs.Looks.{plain, IsWithinLook}
-use Rattle.h5w_lookup.specs.Gathering.{gathering, cut_behind}
+use Rattle.h5w_lookup.specs.Looks.{plain}
+use Rattle.h5w_lookup.specs.Gathering.{cut_behind}
 use Rattle.h5w_dataset.specs.Founds.{found_of, founds, stack}
 use Rattle.h5w_reader.specs.Walking.{messages_of, chunk_0_rest, walk_rest, block_rest}
 use Rattle.h5w_dataset.specs.declared.found.FoundMessage.{FoundMessage}
-use Rattle.h5w_lookup.specs.declared.gather.Gather.{Gather}
 use Rattle.h5w_model.specs.declared.message.Prefix.{Prefix}
-use Rattle.h5w_lookup.proofs.PieceLemmas.{cut_up_is, fed_gather, wants_gather}
+use Rattle.h5w_dataset.proofs.ListedLemmas.{stack_push, founds_push}
+use Rattle.h5w_lookup.proofs.PieceLemmas.{cut_up_is}
 
 -- ---- Lists
-
-pub stack_push : (fs : List FoundMessage) (f : FoundMessage) → stack (fs ++ f ∷ []) ≡ found_of f ∷ stack fs
-stack_push fs f = ap reverse (map-append found_of fs (f ∷ [])) ∙ reverse-append (map found_of fs) (found_of f ∷ [])
-
-pub founds_push : (fs : List FoundMessage) (f : FoundMessage) → founds (fs ++ f ∷ []) ≡ founds fs ++ found_of f ∷ []
-founds_push fs f = map-append found_of fs (f ∷ [])
 
 -- what follows a continuation block, given its messages
 abbrev entered : (more h : ℕ) (t : Bool) (v : List Range) (done ms : List model.FoundMessage) → Result (List model.FoundMessage) ReadError → Prog (Result HeaderFields ReadError)
@@ -176,7 +169,3 @@ chunk_ok place p b ms e = ap (chunk_given place p) e ∙ ap plain (same_messages
 pub chunk_err : (place : ℕ) (p : Prefix) (b : List ℕ) (f : HeaderError) → messages_at b ≡ Err f → chunk_0_rest place p b ≡ ret (Err (header_refusal place f))
 unfolding chunk_0_rest
 chunk_err place p b f e = ap (chunk_given place p) e
-
-pub empty : {A : Type 0} (xs : List A) → length xs ≡ 0 → xs ≡ []
-empty [] e = refl
-empty (x ∷ xs) e = absurd (omega arith)

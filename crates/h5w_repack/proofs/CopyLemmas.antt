@@ -1,16 +1,14 @@
 -- What the jobs of a planned file do, one after another.
-use Rattle.std.proofs.Common.{◌≡◌, ℕ, ◌+◌, ◌<◌, ◌≤◌, List, [], ◌∷◌, ◌++◌, length, drop, Option, Some, None, refl, sym, ap, ap₂, ◌∙◌, subst, arith, append_assoc, append-nil, length-append}
-use Rattle.std.specs.Prelude.{IfSome, OnErr, OnOk, Result, Err, Ok}
+use Rattle.std.proofs.Common.{◌≡◌, ℕ, ◌+◌, ◌<◌, ◌≤◌, List, [], ◌∷◌, ◌++◌, length, drop, Some, None, refl, sym, ap, ap₂, ◌∙◌, subst, arith, append_assoc, append-nil, length-append}
+use Rattle.std.specs.Prelude.{OnErr, Result, Err, Ok}
 use Rattle.std.specs.List.{All}
 use Rattle.std.proofs.lemmas.List.{map-append}
 use Rattle.std.proofs.lemmas.List.Elements.{All-append, All-cons, All-head, All-nil, All-tail}
-use Rattle.h5w_model.specs.Causes.{Rose}
 use Rattle.h5w_model.specs.Numbers.{range}
 use Rattle.h5w_model.specs.declared.piece.Write.{Write}
 use Rattle.h5w_laws.proofs.LoweringLemmas.{length_range}
-use Rattle.h5w_image.specs.View.{GivesRange, ImageView, Looked, Same}
-use Rattle.h5w_looks.specs.Still.{IsStill}
-use Rattle.h5w_looks.proofs.ReadLemmas.{still_on}
+use Rattle.h5w_image.specs.View.{GivesRange, Looked, Same}
+use Rattle.h5w_looks.proofs.ReadLemmas.{still_on, given_there}
 use Rattle.h5w_packing.specs.Jobs.{IsJobBehind, IsJobIn, first_job, place_of, write_of, writes_of}
 use Rattle.h5w_packing.specs.declared.job.Job.{Job}
 use Rattle.h5w_packing.specs.declared.job.Job.TheVariants.{Chunk, Block}
@@ -29,9 +27,6 @@ all_right P [] ys h = h
 all_right P (x ∷ xs) ys h = all_right P xs ys (All-tail P x (xs ++ ys) h)
 
 -- ---- One job
-
-given_there : (x : ImageView) (img : List ℕ) (at len : ℕ) (bytes : List ℕ) → IsStill x img → GivesRange x at len bytes → bytes ≡ range img at len
-given_there x img at len bytes still gives = subst (λ (o : Option (List ℕ)). IfSome o (λ b. bytes ≡ range b at len)) still.told gives
 
 -- all of a range that stands inside
 whole_range : (img : List ℕ) (at len : ℕ) → at + len ≤ length img → length (range img at len) ≡ len
@@ -150,10 +145,6 @@ all_before (b ∷ bs) rest (c ∷ cs) j last e h =
 pub fewer_left : (left new : List Job) (j : Job) → first_job left ≡ Some j → new ≡ drop 1 left → length new < length left
 fewer_left left new j next is = let one = ap length (rest_of left j next) in let rest = ap length is in omega (arith, one, rest)
 
--- a count that rose after it was kept rose
-pub rose_later : (a b c : ℕ) → a ≤ b → Rose b c → Rose a c
-rose_later a b c low rose = omega (arith, low, rose)
-
 -- a job failed: those before it were done
 pub copying_fails : {u v w : PairView} (js left body : List Job) (last : Job) (end : ℕ) (j : Job) → Copying js left end u v → first_job left ≡ Some j → js ≡ body ++ last ∷ [] → All IsJobBehind body → Carries [] v w → CarriesSome u w
 copying_fails {u} {v} {w} js left body last end j c next ordered behind kept = record {
@@ -175,10 +166,6 @@ done_after {u} {v} {w} js p q = record {
 
 pub some_after : {u v w : PairView} → Carries [] u v → CarriesSome v w → CarriesSome u w
 some_after {u} {v} {w} p q = record { writes = q.writes; behind = q.behind; carries = carries_more {u = u} {v = v} {w = w} [] q.writes p q.carries }
-
-pub on_ok : {T E P Q : Type 0} (r : Result T E) → (P → Q) → OnOk r P → OnOk r Q
-on_ok (Ok x) f p = f p
-on_ok (Err e) f p = tt
 
 pub on_err : {T E P Q : Type 0} (r : Result T E) → (P → Q) → OnErr r P → OnErr r Q
 on_err (Ok x) f p = tt

@@ -1,5 +1,5 @@
 -- How the command ends.
-use Rattle.std.proofs.Common.{◌≡◌, ◌⊎◌, ℕ, Bool, true, false, List, [], Option, Some, None, Result, Ok, Err, refl, sym, ap, ◌∙◌, subst, inl, inr, arith}
+use Rattle.std.proofs.Common.{◌≡◌, ◌⊎◌, ℕ, Bool, true, false, List, [], Option, Some, None, Result, Ok, Err, refl, sym, ap, ◌∙◌, subst, inl, inr}
 use Rattle.std.specs.Prelude.{IfSome}
 use Rattle.h5w_model.specs.Causes.{Rose}
 use Rattle.h5w_model.specs.Findings.{AllFinds, Finding, found, overlap}
@@ -21,10 +21,8 @@ use Rattle.h5w_files.proofs.EndLemmas.{ends_done, ends_error}
 use Rattle.h5w_model.specs.Tables.{Reading}
 use Rattle.h5w_survey.specs.Surveys.{IsClosedFile, IsOpenFile, is_written}
 use Rattle.h5w_repack.proofs.RepackLemmas.{empty_unborn}
+use Rattle.h5w_files.proofs.CheckLemmas.{leaves_itself}
 use Rattle.h5w_repacking.specs.Repacks.{AnsweredBy, HasUnborn, MayRepack, OfBytes, PackedFile, RepackEnds, RepackEndsWell, RepackLeaves, RepacksTo, packed_text}
-
-leaves_itself : (v : DiskView) → LeavesFiles v.told v v
-leaves_itself v = record { told = refl; faults = omega arith; through = refl }
 
 -- ---- For want of memory
 

@@ -1,15 +1,12 @@
 -- A source that is surveyed, and a new file that is made and filled.
-use Rattle.std.proofs.Common.{◌≡◌, ◌≢◌, ℕ, ◌≤◌, ◌<◌, ◌^◌, Bool, true, false, List, [], ◌∷◌, ◌++◌, length, map, cond, Option, Some, None, Result, Ok, Err, refl, sym, ap, ◌∙◌, subst, arith, append-nil, append_assoc}
+use Rattle.std.proofs.Common.{◌≡◌, ◌≢◌, ℕ, ◌≤◌, ◌<◌, ◌^◌, Bool, true, List, [], ◌∷◌, ◌++◌, length, map, Option, Some, None, Result, Ok, Err, refl, sym, ap, ◌∙◌, subst, arith, append-nil, append_assoc}
 use Rattle.std.specs.Prelude.{IfOk, IfSome, IsSome, OnOk, is_none, option_map}
 use Rattle.std.specs.Option.{unwrap_or}
-use Rattle.std.specs.Ordering.{nat_cmp, eq_by_cmp}
-use Rattle.std.specs.Cmp.Lexicographic.{slice_cmp, nat_list_cmp_total}
 use Rattle.std.specs.FinMap as finite
-use Rattle.h5w_model.specs.Causes.{Rose}
 use Rattle.h5w_model.specs.Images.{apply, image}
 use Rattle.h5w_model.specs.declared.piece.Write.{Write}
-use Rattle.h5w_image.specs.View.{DiskState, DiskView, Files, IsThere, Leaves, file, made, put}
-use Rattle.h5w_image.proofs.DiskLemmas.{there_when_made}
+use Rattle.h5w_image.specs.View.{DiskState, DiskView, IsThere, Leaves, file, made, put}
+use Rattle.h5w_image.proofs.DiskLemmas.{there_when_made, rose_from, missing_file, insert_twice}
 use Rattle.h5w_image.proofs.Names.{get-insert_same, some-insert}
 use Rattle.h5w_files.specs.Images.{LeavesFiles, file_image, told_bytes}
 use Rattle.h5w_files.proofs.ClearLemmas.{leaves_files}
@@ -26,9 +23,6 @@ use Rattle.h5w_repack.specs.Copies.{put_each}
 use Rattle.h5w_repacking.specs.Repacks.{HasNew, HasPut, IsOfSurvey, SurveyedBy, SurveysTo, line_of_survey, with_new}
 
 -- ---- The source
-
-rose_from : (a b c : ℕ) → a ≤ b → Rose b c → Rose a c
-rose_from a b c low rose = omega arith
 
 abbrev lined : Result (Vec Source) SurveyError → Result (Vec Source) ErrorLine
 lined (Ok s) = Ok s
@@ -98,14 +92,6 @@ surveys_by {u} {v} {w} r q n file_name other names answer low p sized there step
 
 -- ---- The new file
 
-none_is : (o : Option (List ℕ)) → true ≡ is_none o → o ≡ None
-none_is None e = refl
-none_is (Some b) e = absurd (cc)
-
-missing_file : (name : List ℕ) (t : Option DiskState) → IfSome t (λ d. true ≡ is_none (file d name)) → IfSome t (λ d. file d name ≡ None)
-missing_file name None h = tt
-missing_file name (Some d) h = none_is (file d name) h
-
 made_new : (name : List ℕ) (t : Option DiskState) → option_map (made name) t ≡ option_map (with_new name [] []) t
 made_new name None = refl
 made_new name (Some d) = λ i. Some (record { files = finite.insert d.files name []; puts = sym (append-nil d.puts) i })
@@ -135,18 +121,6 @@ new_after {u} {v} to bytes l h = record {
   missing = subst (λ t. IfSome t (λ d. file d to ≡ None)) l.told h.missing;
   disk = record { told = h.disk.told ∙ ap (option_map (with_new to bytes h.counts)) l.told; faults = omega (arith, l.faults, h.disk.faults); through = h.disk.through ∙ l.through };
 }
-
-insert_twice : (m : Files) (name b c : List ℕ) → finite.insert (finite.insert m name b) name c ≡ finite.insert m name c
-insert_twice m name b c =
-    finite.same_map nat_list_cmp_total (finite.slice_cmp-IsAntisymmetric finite.nat_cmp-IsAntisymmetric) _ _
-    (λ q. finite.get-insert nat_list_cmp_total (finite.insert m name b) name c q
-    ∙ ap (cond (eq_by_cmp (slice_cmp nat_cmp) q name) (Some c)) (finite.get-insert nat_list_cmp_total m name b q)
-    ∙ twice (eq_by_cmp (slice_cmp nat_cmp) q name) (finite.get m q)
-    ∙ sym (finite.get-insert nat_list_cmp_total m name c q))
-  where
-    twice : (e : Bool) (o : Option (List ℕ)) → cond e (Some c) (cond e (Some b) o) ≡ cond e (Some c) o
-    twice true o = refl
-    twice false o = refl
 
 put_new : (name b : List ℕ) (cs : List ℕ) (w : Write) (c : ℕ) (d : DiskState) → put name w c (with_new name b cs d) ≡ with_new name (apply w b) (cs ++ c ∷ []) d
 put_new name b cs w c d =

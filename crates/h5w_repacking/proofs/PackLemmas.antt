@@ -1,7 +1,6 @@
 -- A new file that is planned, made and filled.
-use Rattle.std.proofs.Common.{◌≡◌, ◌⊎◌, ℕ, ◌≤◌, ◌<◌, ◌^◌, Bool, List, [], length, Option, Some, None, Result, Ok, Err, refl, sym, ap, ◌∙◌, subst, inl, inr, arith}
+use Rattle.std.proofs.Common.{◌≡◌, ◌⊎◌, ℕ, ◌≤◌, ◌<◌, ◌^◌, Bool, List, [], length, Option, Some, None, Result, Ok, Err, refl, sym, ap, ◌∙◌, subst, inl, inr}
 use Rattle.std.specs.Prelude.{IfSome, OnOk, map, option_map}
-use Rattle.h5w_model.specs.Causes.{Rose}
 use Rattle.h5w_model.specs.Images.{image}
 use Rattle.h5w_model.specs.Tables.{Reading}
 use Rattle.h5w_model.specs.declared.refusal.ReadError.TheVariants as reads
@@ -16,19 +15,15 @@ use Rattle.h5w_packing.specs.Plans.{IsPlanned, Wanted, wanted_of}
 use Rattle.h5w_packing.proofs.WholeLemmas.{packed_whole}
 use Rattle.h5w_survey.specs.Surveys.{IsSurveyOf}
 use Rattle.std.specs.Global.{Vec}
+use Rattle.h5w_image.proofs.DiskLemmas.{rose_from}
 use Rattle.h5w_packing.specs.declared.source.Source.{Source}
 use Rattle.h5w_repack.specs.Packed.{IsPacked}
 use Rattle.h5w_repack.proofs.InsideLemmas.{jobs_inside}
 use Rattle.h5w_repack.proofs.RepackLemmas.{empty_unborn, out_by, unborn}
+use Rattle.h5w_files.proofs.CheckLemmas.{leaves_itself}
 use Rattle.h5w_repacking.specs.Repacks.{CopiesTo, HasCopied, HasNew, HasPacked, HasUnborn, IsOfSurvey, MakesNew, OfBytes, PackedFile, PacksTo, PlansTo, RefusedBy, RepackLeaves, RepackedTo, RepacksTo, SurveyedBy, SurveysTo, WritesTo, packed_text, with_new}
 use Rattle.h5w_repacking.proofs.NewLemmas.{new_after, new_left, new_put}
 use Rattle.h5w_repacking.proofs.PairLemmas.{get_insert-other}
-
-rose_from : (a b c : ℕ) → a ≤ b → Rose b c → Rose a c
-rose_from a b c low rose = omega arith
-
-leaves_itself : (v : DiskView) → LeavesFiles v.told v v
-leaves_itself v = record { told = refl; faults = omega arith; through = refl }
 
 -- ---- The plan
 

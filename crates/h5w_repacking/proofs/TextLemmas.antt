@@ -7,8 +7,10 @@ use Rattle.std.proofs.lemmas.List.Sums.{count_by_more_no, count_by_more_yes, sum
 use Rattle.h5w_model.specs.Tiles.{TileFields}
 use Rattle.h5w_text.specs.Replies.{spaced}
 use Rattle.h5w_text.specs.Table.{numbers_text}
+use Rattle.h5w_batches.proofs.AnswerLemmas.{joined}
 use Rattle.h5w_packing.specs.Tiles.{tile_of}
 use Rattle.h5w_packing.specs.declared.ranges.Range.{Range}
+use Rattle.h5w_files.proofs.CheckLemmas.{part}
 use Rattle.h5w_repacking.specs.Repacks.{end_text, is_chunk, range_text, ranges_text}
 
 -- ---- Its ranges
@@ -69,12 +71,6 @@ pub blocks_counted : (rs : List Range) (ts : List TileFields) (chunks : ℕ) →
 blocks_counted rs ts chunks are so = subst (λ (l : List TileFields). length rs - chunks ≡ count_by (λ t. not (is_chunk t)) l) are (omega (arith, so, count_both (map tile_of rs), length_tiles rs))
 
 -- ---- The line
-
-joined : (out one two x y : List ℕ) → one ≡ out ++ x → two ≡ one ++ y → two ≡ out ++ (x ++ y)
-joined out one two x y p q = q ∙ ap (λ l. l ++ y) p ∙ append_assoc out x y
-
-part : (out mid name : List ℕ) (n : ℕ) → mid ≡ out ++ (name ++ flat_map spaced (n ∷ [])) → mid ≡ out ++ (name ++ spaced n)
-part out mid name n e = e ∙ ap (λ x. out ++ (name ++ x)) (append-nil (spaced n))
 
 pub end_parts : {T E : Type 0} (r : Result T E) (out a b e : List ℕ) (end blocks chunks : ℕ) (ts : List TileFields) → a ≡ out ++ (codes "repack end" ++ flat_map spaced (end ∷ [])) → b ≡ a ++ (codes " blocks" ++ flat_map spaced (blocks ∷ []))
     → OnOk r (e ≡ b ++ numbers_text (codes " chunks") (chunks ∷ [])) → blocks ≡ count_by (λ t. not (is_chunk t)) ts → chunks ≡ count_by is_chunk ts → OnOk r (e ≡ out ++ end_text end ts)

@@ -1,6 +1,5 @@
 -- How a run in threads ends.
-use Rattle.std.proofs.Common.{◌≡◌, ◌⊎◌, ℕ, ◌+◌, ◌≤◌, List, [], ◌∷◌, map, ℤ, Option, Some, None, Result, Ok, Err, refl, sym, ap, ◌∙◌, subst, inl, inr}
-use Rattle.std.specs.Prelude.{IfSome}
+use Rattle.std.proofs.Common.{◌≡◌, ◌⊎◌, ℕ, ◌+◌, ◌≤◌, List, [], ◌∷◌, map, ℤ, Some, None, Result, Ok, Err, refl, sym, ap, ◌∙◌, subst, inl, inr}
 use Rattle.h5w_model.specs.Causes.{Rose}
 use Rattle.h5w_model.specs.Datasets.{Described}
 use Rattle.h5w_model.specs.Logs.{load, spent}
@@ -23,7 +22,7 @@ use Rattle.h5w_batches.specs.Batches.{batches_of}
 use Rattle.h5w_batches.specs.Inputs.{AreAll, HasNumbers, ReadsOutside}
 use Rattle.h5w_batches.specs.Reads.{IsTooLong, ReadsBatches}
 use Rattle.h5w_batches.specs.declared.error.BatchError.TheVariants as batch_errors
-use Rattle.h5w_batches.proofs.AnswerLemmas.{completes_of}
+use Rattle.h5w_batches.proofs.AnswerLemmas.{completes_of, at_told}
 use Rattle.h5w_live.specs.Writing.{IsFullAt, cutting_for, first_refused}
 use Rattle.h5w_live.specs.declared.report.LiveReport.{LiveReport}
 use Rattle.h5w_running.specs.Runs.{Asked, Halts, HaltsBy, LacksRoomAt, Refuses, RefusesBy, Tells}
@@ -67,9 +66,6 @@ one_list {X} (x ∷ xs) (y ∷ ys) e =
     let first : x ≡ y = cc in
     let behind : map Some xs ≡ map Some ys = cc in
     ap (λ (z : X). z ∷ xs) first ∙ ap (λ (zs : List X). y ∷ zs) (one_list xs ys behind)
-
-at_told : (o : Option (List ℕ)) (P : List ℕ → Type 0) (input : List ℕ) → o ≡ Some input → IfSome o P → P input
-at_told o P input e h = subst (λ (q : Option (List ℕ)). IfSome q P) e h
 
 -- an input has one list of batches
 one_reading : {columns : ℕ} {s t : SourceView} (bs : List (List ℤ)) (h : HasNumbers columns s) → ReadsBatches columns s t bs → bs ≡ batches_of h.numbers

@@ -8,11 +8,9 @@ use Rattle.h5w_model.specs.declared.report.Poll.TheVariants as polls
 use Rattle.h5w_model.specs.declared.report.PollLine.{PollLine}
 use Rattle.h5w_text.specs.Replies.{spaced, spaced_value}
 use Rattle.h5w_text.specs.Table.{numbers_text, row_text, rows_text, value_text}
+use Rattle.h5w_batches.proofs.AnswerLemmas.{joined}
 use Rattle.h5w_live_laws.specs.Lines.{rows_told}
 use Rattle.h5w_running.specs.Texts.{answer_text, done_text, flush_text, mirror_text, poll_text, report_text}
-
-joined : (out one two x y : List ℕ) → one ≡ out ++ x → two ≡ one ++ y → two ≡ out ++ (x ++ y)
-joined out one two x y p q = q ∙ ap (λ l. l ++ y) p ∙ append_assoc out x y
 
 -- ---- A call
 

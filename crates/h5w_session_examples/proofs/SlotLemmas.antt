@@ -1,29 +1,15 @@
 -- An index block that names no block answers by its own slots.
-use Rattle.std.proofs.Common.{◌≡◌, ◌⊎◌, ℕ, zero, suc, ◌+◌, ◌-◌, ◌<◌, ◌≤◌, Bool, true, false, List, length, get_or, Result, Ok, refl, sym, ◌∙◌, ap, inl, inr, arith}
+use Rattle.std.proofs.Common.{◌≡◌, ◌⊎◌, ℕ, ◌+◌, ◌-◌, ◌<◌, ◌≤◌, Bool, true, false, List, length, get_or, Ok, sym, ◌∙◌, ap, inl, inr, arith}
 use Rattle.std.specs.Prelude.{nat_lt, if◌then◌else◌, replicate}
 use Rattle.std.proofs.lemmas.Bool.{cases_lt, lt-ltb, le-ltb, cond-true, cond-false}
 use Rattle.std.proofs.lemmas.List.{get_or_past}
 use Rattle.h5w_model.specs.Numbers.{undefined}
-use Rattle.h5w_model.specs.Programs.{Prog, ret, eval}
+use Rattle.h5w_model.specs.Programs.{eval}
 use Rattle.h5w_model.specs.Arrays.{EaibFields, SlotPlace, blocks_before, place_of, named_place, slot_place_of, super_block_of}
 use Rattle.h5w_model.specs.Tables.{array_slot, data_slot, secondary_slot, super_block_of_first}
-use Rattle.h5w_model.specs.declared.cell.Place.{Place}
 use Rattle.h5w_model.specs.declared.cell.Place.TheVariants.{Index, Direct, Second}
-use Rattle.h5w_model.specs.declared.refusal.ReadError.{ReadError}
-
-all_undefined : (n k : ℕ) → get_or (replicate n undefined) k undefined ≡ undefined
-all_undefined zero k = refl
-all_undefined (suc n) zero = refl
-all_undefined (suc n) (suc k) = all_undefined n k
-
--- the slot at a place of the array
-abbrev pub slot_of : EaibFields → Place → Prog (Result ℕ ReadError)
-slot_of e p =
-    elim p [
-      | Index slot ↦ ret (Ok (get_or e.slots slot undefined))
-      | Direct block slot ↦ data_slot (get_or e.first block undefined) (super_block_of (super_block_of_first block)).slots slot
-      | Second sblock block slot ↦ secondary_slot (get_or e.second (sblock - 4) undefined) sblock block slot
-    ]
+use Rattle.h5w_model.proofs.SlotLemmas.{slot_of}
+use Rattle.h5w_examples.proofs.BehindLemmas.{all_undefined}
 
 direct_none : (img : List ℕ) (e : EaibFields) (block slot : ℕ) → e.first ≡ replicate 6 undefined → eval img (slot_of e (Direct block slot)) ≡ Ok undefined
 direct_none img e block slot first =

@@ -3,24 +3,21 @@ use Rattle.std.proofs.Common.{◌≡◌, ◌≢◌, ◌⊎◌, ◌&&◌, ℕ, Bo
 use Rattle.std.specs.Prelude.{IfSome, IsSome, nat_eq, ◌==◌}
 use Rattle.std.specs.List.{starts_with}
 use Rattle.std.proofs.lemmas.Bool.{eqb-true}
-use Rattle.h5w_model.specs.Arrays.{EaibFields, array_tests, eaib_at, eaib_fields, eaib_len}
+use Rattle.h5w_model.specs.Arrays.{array_tests, eaib_at, eaib_fields, eaib_len}
 use Rattle.h5w_model.specs.Blocks.{block_tests}
 use Rattle.h5w_model.specs.Numbers.{range}
-use Rattle.h5w_model.specs.Programs.{eval}
 use Rattle.h5w_model.specs.Superblock.{super_at, super_fields, super_signature, super_tests}
-use Rattle.h5w_model.specs.declared.refusal.BlockFault.{BlockFault}
 use Rattle.h5w_model.specs.declared.root.Super.{Super}
 use Rattle.h5w_model.proofs.CheckedLemmas.{checked-passed}
 use Rattle.h5w_cache.specs.Blocks.{BlockView}
 use Rattle.h5w_cache.specs.Stores.{Store}
 use Rattle.h5w_array_laws.specs.ArrayStores.{block_at_part, place_at_part}
 use Rattle.h5w_array_laws.specs.Parts.{index_block}
-use Rattle.h5w_ea_index.specs.Opened.{StandsAt, refusal, refused_on}
-use Rattle.h5w_index.specs.Blocks.{has_no_block}
+use Rattle.h5w_ea_index.specs.Opened.{StandsAt, refused_on}
+use Rattle.h5w_ea_index.proofs.DecodedLemmas.{refusal_none}
 use Rattle.h5w_index.specs.Views.{IndexView, an_array, a_tree}
-use Rattle.h5w_opening.specs.Openings.{IsFound, Opened, looked_for}
+use Rattle.h5w_opening.specs.Openings.{IsFound, Opened}
 use Rattle.h5w_opening.specs.declared.error.OpenError.{OpenError}
-use Rattle.h5w_opening.specs.declared.error.OpenError.TheVariants.{Failed}
 use Rattle.h5w_opening.proofs.FoundParts.{parts}
 use Rattle.h5w_session_open.specs.declared.index.NoIndex.{NoIndex}
 use Rattle.h5w_session_open.specs.OpenAnswers.{IsArrayOf, IsIndexOf}
@@ -45,10 +42,6 @@ front (x ∷ xs) index super =
     let other : 137 ≡ x = eqb-true 137 x (and_left (137 == x) _ super) in
     omega (arith, one, other)
 
-unrefused : {A : Type 0} (r : Result A BlockFault) → refusal r ≡ None → (a : A) × (r ≡ Ok a)
-unrefused (Ok a) h = (a, refl)
-unrefused (Err f) h = absurd (cc)
-
 kept : (o : Option BlockView) (P : BlockView → Type 0) → IsSome o → IfSome o P → (b : BlockView) × P b
 kept (Some b) P some h = (b, h)
 kept None P some h = absurd (cc)
@@ -56,7 +49,7 @@ kept None P some h = absurd (cc)
 not_there : (img : List ℕ) (s : Super) → refused_on img index_block 0 ≡ None → super_at (range img 0 48) ≡ Ok s → ⊥
 not_there img s sound super =
     let b = range img 0 eaib_len in
-    let t = unrefused (eaib_at b 0) sound in
+    let t = refusal_none (eaib_at b 0) sound in
     let index = checked-passed (block_tests (codes "EAIB") eaib_len b ++ array_tests b 0) (eaib_fields b) t.0 t.1 in
     let first = checked-passed (super_tests (range img 0 48)) (super_fields (range img 0 48)) s super in
     front img index.0.1.0 first.0.0

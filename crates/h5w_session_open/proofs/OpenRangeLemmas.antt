@@ -1,23 +1,21 @@
 -- The ranges of a file that is opened: which of them is the first that ends behind a place.
 use Rattle.std.proofs.Common.{◌≡◌, ◌≢◌, ℕ, zero, suc, ◌+◌, ◌-◌, ◌<◌, ◌≤◌, Bool, true, false, cond, List, [], ◌∷◌, ◌++◌, take, Option, Some, None, refl, sym, ap, ◌∙◌, subst, inl, inr, arith, append_assoc, append-nil}
 use Rattle.std.specs.Prelude.{nat_lt, map, option_map}
-use Rattle.std.specs.List.{All}
 use Rattle.std.specs.Option.{option_or}
 use Rattle.std.proofs.Common.{ne_eqb}
 use Rattle.std.proofs.lemmas.Bool.{cases_eq, ltb-true, ltb-false, le-ltb, lt-ltb}
-use Rattle.std.proofs.lemmas.List.Elements.{All-head, All-tail}
 use Rattle.h5w_model.specs.Numbers.{undefined}
 use Rattle.h5w_model.specs.Tables.{in_leaf, key_below, key_equal}
 use Rattle.h5w_model.specs.declared.cell.Key.{Key}
 use Rattle.h5w_space.specs.Space.{extent}
 use Rattle.h5w_space.specs.declared.Extent.{Extent}
+use Rattle.h5w_space.specs.Ranges.{range_at}
 use Rattle.h5w_cache.specs.Stores.{Store}
 use Rattle.h5w_array_laws.specs.ArrayStores.{map_of}
-use Rattle.h5w_ea_index.specs.Ranges.{range_at}
 use Rattle.h5w_ea_index.specs.Steps.{found}
 use Rattle.h5w_bt.specs.Parts.{record_of}
 use Rattle.h5w_bt.specs.declared.records.Record.{Record}
-use Rattle.h5w_bt_index.proofs.Keys.{equal-is}
+use Rattle.h5w_bt.proofs.KeyLemmas.{equal-is}
 use Rattle.h5w_session_open.specs.OpenRanges.{chunks_behind, chunks_from, first_past}
 
 -- ---- Options
@@ -117,10 +115,6 @@ chunks_by end len v i (suc n) h =
 pub next_chunk : (len : ℕ) (v : Store) (i : ℕ) → i < 131060 → chunks_from v len i (131060 - i) ≡ range_at (map_of v i) len ++ chunks_from v len (i + 1) (131060 - (i + 1))
 next_chunk len v i low = let e : 131060 - i ≡ suc (131060 - (i + 1)) = omega arith in ap (chunks_from v len i) e
 
--- no chunk is left
-pub none_left : (len : ℕ) (v : Store) (i : ℕ) → 131060 ≤ i → chunks_from v len i (131060 - i) ≡ []
-none_left len v i high = let e : 131060 - i ≡ 0 = omega arith in ap (chunks_from v len i) e
-
 -- a chunk that was found
 placed_found : (a b : ℕ) → found a ≡ Some b → (a ≢ undefined) × (a ≡ b)
 placed_found a b h = elim (cases_eq a undefined) [
@@ -146,10 +140,6 @@ behind_first : (end len line : ℕ) (r : Record) (c : Bool) → nat_lt r.key.i l
 behind_first end len line r true e h late named = let low = ltb-true r.key.i line e in absurd (omega (arith, low, late))
 behind_first end len line r false e h late named = by_range end r.address len h named
 
-first_behind : (end len line : ℕ) (r : Record) (c : Bool) → nat_lt r.key.i line ≡ c → (line ≤ r.key.i → r.address ≢ undefined → r.address + len ≤ end) → AllBy end (cond c [] (range_at r.address len))
-first_behind end len line r true e h = tt
-first_behind end len line r false e h = range_by end r.address len (h (ltb-false r.key.i line e))
-
 -- where the chunks of a line and later end by an end, so does that of each key there
 pub behind_ends : (end len line : ℕ) (rs : List Record) (key : Key) → AllBy end (chunks_behind len line rs) → line ≤ key.i → in_leaf key (map record_of rs) ≢ undefined → in_leaf key (map record_of rs) + len ≤ end
 behind_ends end len line [] key h late = λ named. absurd (named refl)
@@ -168,14 +158,6 @@ behind_ends end len line (r ∷ rs) key h late =
     go others false true e =
         behind_first end len line r (nat_lt r.key.i line) refl (by_left end first (chunks_behind len line rs) h) (subst (λ (k : Key). line ≤ k.i) (sym (equal-is r.key key e)) late)
     go others false false e = λ named. absurd (named refl)
-
--- and they do where each record's does
-pub ends_behind : (end len line : ℕ) (rs : List Record) → All (λ (r : Record). line ≤ r.key.i → r.address ≢ undefined → r.address + len ≤ end) rs → AllBy end (chunks_behind len line rs)
-ends_behind end len line [] h = tt
-ends_behind end len line (r ∷ rs) h =
-    let P : Record → Type 0 = λ s. line ≤ s.key.i → s.address ≢ undefined → s.address + len ≤ end in
-    by_both end (cond (nat_lt r.key.i line) [] (range_at r.address len)) (chunks_behind len line rs) (first_behind end len line r (nat_lt r.key.i line) refl (All-head P r rs h))
-    (ends_behind end len line rs (All-tail P r rs h))
 
 -- that of a record, where its chunk is of a line or later
 abbrev pub behind_one : ℕ → ℕ → Record → List Extent

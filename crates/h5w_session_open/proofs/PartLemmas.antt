@@ -1,5 +1,5 @@
 -- What the opening of a file by several names answers of each of its datasets.
-use Rattle.std.proofs.Common.{◌≡◌, ◌⊎◌, ℕ, Bool, true, List, [], Option, Some, None, Result, Ok, Err, refl, sym, ap, ◌∙◌, subst, inl, inr, ◌≤◌, length}
+use Rattle.std.proofs.Common.{◌≡◌, ◌⊎◌, ℕ, Bool, true, List, [], Option, Some, None, Result, Ok, Err, sym, ap, ◌∙◌, subst, inl, inr, ◌≤◌, length}
 use Rattle.std.specs.Prelude.{MatchOption}
 use Rattle.std.specs.Option.{option_or}
 use Rattle.h5w_model.specs.Numbers.{range}
@@ -76,16 +76,6 @@ unfit_part img o a e (inr h) = subst (λ g. IfRefusal (refusal_of g) (IsUnfit im
 
 pub dataset_first : (o : Opened) (a : Result IndexView NoIndex) (r : Result (Unit {0}) OpenError) (e : OpenError) → MatchOption (refused_dataset o) (r ≡ Ok tt) (λ f. r ≡ Err f) → r ≡ Err e → refused_part o a ≡ Some e
 dataset_first o a r e said is = next_told (refused_dataset o) (refused_index o.header.dataset a) r e said is
-
-pub index_next : (o : Opened) (a : Result IndexView NoIndex) (r : Result (Unit {0}) OpenError) → MatchOption (refused_dataset o) (r ≡ Ok tt) (λ f. r ≡ Err f) → r ≡ Ok tt → refused_dataset o ≡ None
-index_next o a r said is = go (refused_dataset o) said
-  where
-    go : (told : Option OpenError) → MatchOption told (r ≡ Ok tt) (λ f. r ≡ Err f) → told ≡ None
-    go None h = refl
-    go (Some f) h = absurd (let clash : Ok tt ≡ Err f = sym is ∙ h in cc)
-
-pub part_from : (o : Opened) (a : Result IndexView NoIndex) → refused_dataset o ≡ None → refused_part o a ≡ refused_index o.header.dataset a
-part_from o a h = or_second (refused_dataset o) (refused_index o.header.dataset a) h
 
 -- ---- Chunk 0 of its header
 

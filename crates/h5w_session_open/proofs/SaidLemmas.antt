@@ -1,38 +1,18 @@
 -- What the messages of a dataset header say of the dataset.
-use Rattle.std.proofs.Common.{◌≡◌, ◌⊎◌, ℕ, ◌+◌, ◌*◌, ◌^◌, ◌≤◌, Bool, true, false, cond, ◌&&◌, ◌||◌, not, List, length, Option, Some, None, Result, Ok, refl, sym, ap, ◌∙◌, subst, inl, inr, arith}
+use Rattle.std.proofs.Common.{◌≡◌, ◌⊎◌, ℕ, ◌+◌, ◌*◌, ◌^◌, ◌≤◌, Bool, true, false, cond, ◌&&◌, ◌||◌, List, length, Option, Some, None, Result, Ok, refl, sym, ap, ◌∙◌, subst, inl, inr, arith}
 use Rattle.std.specs.Prelude.{IfSome, IsTrue, ◌==◌, nat_le, if◌then◌else◌}
-use Rattle.std.proofs.lemmas.Bool.{ltb-true, leb-true, eqb-true}
+use Rattle.std.proofs.lemmas.Bool.{ltb-true, leb-true, eqb-true, or_cases}
 use Rattle.h5w_model.specs.Numbers.{range, field}
-use Rattle.h5w_model.specs.Messages.{FillFields, IntTypeFields, LayoutFields, ShapeFields, IsIntType, IsLayout, IsShape, byte, chunk_cols_at, chunk_size, fill_at, fill_fields, fill_size, fill_tests, int_type_at, int_type_fields, int_type_tests, is_int_size, is_shape, layout_at, layout_fields, layout_tests, shape_at, shape_fields, shape_tests, unlimited}
+use Rattle.h5w_model.specs.Messages.{FillFields, IntTypeFields, LayoutFields, ShapeFields, IsIntType, IsLayout, IsShape, byte, chunk_cols_at, chunk_size, fill_at, fill_fields, fill_size, fill_tests, int_type_at, int_type_fields, int_type_tests, is_int_size, is_shape, layout_at, layout_fields, layout_tests, shape_at, shape_fields, shape_tests}
 use Rattle.h5w_model.specs.Datasets.{Described, FoundMessage, body_of, described, fill_value_kind}
 use Rattle.h5w_model.specs.declared.refusal.Unsupported.{Unsupported}
 use Rattle.h5w_model.proofs.CheckedLemmas.{checked-passed}
 use Rattle.h5w_laws.proofs.LoweringLemmas.{length_range}
 use Rattle.h5w_header_laws.proofs.DescribedLemmas.{parts_of}
+use Rattle.h5w_header_laws.proofs.ShapeLemmas.{by_rank}
 use Rattle.h5w_session_open.specs.OpenSteps.{IsCut}
 
 -- ---- The shape
-
-two_of : (a b : Bool) → (a || b) ≡ true → (a ≡ true) ⊎ (b ≡ true)
-two_of true b h = inl refl
-two_of false b h = inr h
-
--- a second dimension whose maximum is none, or is its size
-by_side : (most cols : ℕ) → ((most == unlimited) || (most == cols)) ≡ true → ((most == unlimited) || not (cols == unlimited)) ≡ true
-by_side most cols h = by (most == unlimited) refl h
-  where
-    by : (b : Bool) → (most == unlimited) ≡ b → (b || (most == cols)) ≡ true → (b || not (cols == unlimited)) ≡ true
-    by true e g = refl
-    by false e g =
-        let same : most ≡ cols = eqb-true most cols g in
-        ap not (ap (λ n. n == unlimited) (sym same) ∙ e)
-
-by_rank : (rank rows cols most : ℕ) → (rank ≡ 1) ⊎ (rank ≡ 2) → ((rank == 1) || (most == unlimited) || (most == cols)) ≡ true
-    → is_shape (record { rank = rank; rows = rows; cols = if rank == 1 then 1 else cols; growing = (rank == 2) && (most == unlimited) }) ≡ true
-by_rank rank rows cols most (inl e) h = subst (λ n. is_shape (record { rank = n; rows = rows; cols = if n == 1 then 1 else cols; growing = (n == 2) && (most == unlimited) }) ≡ true) (sym e) refl
-by_rank rank rows cols most (inr e) h =
-    subst (λ n. is_shape (record { rank = n; rows = rows; cols = if n == 1 then 1 else cols; growing = (n == 2) && (most == unlimited) }) ≡ true) (sym e)
-    (by_side most cols (subst (λ n. ((n == 1) || (most == unlimited) || (most == cols)) ≡ true) e h))
 
 as_true : (b : Bool) → b ≡ true → IsTrue b
 as_true b e = e
@@ -41,7 +21,7 @@ shaped_by : (space : List ℕ) (s : ShapeFields) → shape_at space ≡ Ok s →
 unfolding shape_at shape_tests shape_fields
 shaped_by space s h =
     let shape = checked-passed (shape_tests space) (shape_fields space) s h in
-    let ranked = two_of (byte space 1 == 1) (byte space 1 == 2) shape.0.1.1.0 in
+    let ranked = or_cases (byte space 1 == 1) (byte space 1 == 2) shape.0.1.1.0 in
     let rank : (byte space 1 ≡ 1) ⊎ (byte space 1 ≡ 2) = elim ranked [ inl t ↦ inl (eqb-true (byte space 1) 1 t) | inr t ↦ inr (eqb-true (byte space 1) 2 t) ] in
     as_true (is_shape s) (subst (λ (x : ShapeFields). is_shape x ≡ true) shape.1 (by_rank (byte space 1) (field space 4 8) (field space 12 8) (field space 28 8) rank shape.0.1.1.1.1.1.1.1.0))
 

@@ -20,6 +20,7 @@ use Rattle.h5w_visits.specs.Indexes.{IsIndex}
 use Rattle.h5w_visits.specs.Ranges.{AllEndBy, chunk_at}
 use Rattle.h5w_visits.proofs.RangeLemmas.{ends_left, ends_right}
 use Rattle.h5w_space.specs.declared.Extent.{Extent}
+use Rattle.h5w_space.specs.Ranges.{range_at}
 use Rattle.h5w_bt.specs.declared.records.Record.{Record}
 use Rattle.h5w_bt_index.specs.Index as trees
 use Rattle.h5w_bt_index.specs.Index.{Index, records}
@@ -28,7 +29,6 @@ use Rattle.h5w_bt_open.specs.Spans.{Leads}
 use Rattle.h5w_tree_index_laws.specs.TreeImages.{AreSame, behind_of, chunk_of, chunks_of}
 use Rattle.h5w_tree_index_laws.proofs.TreeInsertLemmas.{apart}
 use Rattle.h5w_tree_index_laws.proofs.TreeRangeLemmas.{by_weight}
-use Rattle.h5w_ea_index.specs.Ranges.{range_at}
 use Rattle.h5w_session_open.specs.OpenRanges.{chunks_behind, first_key, header_len}
 use Rattle.h5w_session_open.proofs.OpenRangeLemmas.{AllBy, by_both, range_by}
 use Rattle.h5w_session_open.proofs.UndamagedLemmas.{array_ends, block_there, visit_of}

@@ -16,7 +16,7 @@ use Rattle.h5w_space.specs.declared.Extent.{Extent}
 use Rattle.h5w_cache.specs.Stores.{Store}
 use Rattle.h5w_chunks.specs.Shares.{first_line}
 use Rattle.h5w_array_laws.specs.ArrayStores.{map_of}
-use Rattle.h5w_ea_index.specs.Ranges.{block_ranges, range_at}
+use Rattle.h5w_ea_index.specs.Ranges.{block_ranges}
 use Rattle.h5w_bt.specs.declared.records.Record.{Record}
 use Rattle.h5w_bt_index.specs.Index.{records}
 use Rattle.h5w_bt_open.specs.Needed.{ranges_from}
@@ -27,6 +27,7 @@ use Rattle.h5w_opening.specs.declared.error.OpenError.TheVariants.{Read, Finding
 use Rattle.h5w_session_open.specs.declared.index.NoIndex.{NoIndex}
 use Rattle.h5w_session_open.specs.declared.index.NoIndex.TheVariants.{Unnamed, Empty, WrongTotals, Unordered}
 use Rattle.h5w_model.specs.Numbers.{undefined}
+use Rattle.h5w_space.specs.Ranges.{range_at}
 
 -- its rows need no more chunks than are read
 abbrev pub HasFewChunks : Described → Type 0

@@ -1,21 +1,19 @@
 -- The blocks of a dataset, and how long the headers of a new file are.
-use Rattle.std.proofs.Common.{◌≡◌, ℕ, ◌+◌, ◌*◌, ◌≤◌, cond, leb, List, [], ◌∷◌, ◌++◌, length, length-append, append_assoc, drop, refl, ap, ◌∙◌, inl, inr, arith}
+use Rattle.std.proofs.Common.{◌≡◌, ℕ, ◌+◌, ◌*◌, ◌≤◌, cond, leb, List, [], ◌∷◌, ◌++◌, length, append_assoc, drop, refl, ap, ◌∙◌, inl, inr, arith}
 use Rattle.std.specs.Prelude.{map}
 use Rattle.std.specs.List.{AllByRecursion, sum_by}
 use Rattle.std.proofs.lemmas.Bool.{cases_Bool}
-use Rattle.std.proofs.lemmas.List.{drop_all}
 use Rattle.std.proofs.lemmas.List.Sums.{sum_by-cons}
 use Rattle.h5w_model.specs.Numbers.{le}
 use Rattle.h5w_model.specs.Headers.{header_bytes, msgs_bytes, prefix_bytes}
 use Rattle.h5w_model.specs.Images.{pieces}
 use Rattle.h5w_model.specs.Superblock.{super_bytes}
-use Rattle.h5w_model.specs.Links.{link_bytes, link_info_bytes, group_info_bytes, link_info_kind}
+use Rattle.h5w_model.specs.Links.{link_info_bytes, group_info_bytes, link_info_kind}
 use Rattle.h5w_model.specs.declared.root.Super.{Super}
 use Rattle.h5w_model.specs.declared.message.Msg.{Msg}
 use Rattle.h5w_model.specs.declared.piece.Write.{Write}
 use Rattle.h5w_model.specs.declared.cell.IndexKind.{IndexKind}
 use Rattle.h5w_model.specs.declared.cell.IndexKind.TheVariants.{Array, Tree}
-use Rattle.h5w_model.proofs.NumberLemmas.{length-le}
 use Rattle.h5w_model.proofs.HeaderLemmas.{length-header_bytes}
 use Rattle.h5w_model.proofs.HeaderRoundTrip.{prefix_bytes-small, prefix_bytes-large}
 use Rattle.h5w_header_laws.specs.Spelled.{message, spelled_header}
@@ -32,10 +30,6 @@ use Rattle.h5w_several_creation.specs.Forms.{AreNames, HasRoom, all_by, any_by, 
 use Rattle.h5w_several_creation.proofs.HeaderLemmas.{moved_header}
 
 -- ---- The root header
-
-pub length_link : (name : List ℕ) (place : ℕ) → length (link_bytes name place) ≡ 11 + length name
-unfolding le
-length_link name place = omega (arith, length-append name (le 8 place), length-le 8 place)
 
 -- how many bytes stand before messages
 prefix_few : (n : ℕ) → length (prefix_bytes n) ≤ 8
@@ -72,7 +66,7 @@ names_short (name ∷ names) each =
     let short = each.0.1 in
     omega arith
 
-as_many : (names : List (List ℕ)) (form : Form) → length (all_by names form) ≡ length names
+pub as_many : (names : List (List ℕ)) (form : Form) → length (all_by names form) ≡ length names
 as_many [] form = refl
 as_many (name ∷ names) form = let rest = as_many names form in omega arith
 
@@ -139,10 +133,6 @@ set_put form place len header piece old mid new h is long index moved all =
 
 -- ---- One after the other
 
-writes_joined : (bs cs : List (ℕ × List ℕ)) → map block_write (bs ++ cs) ≡ map block_write bs ++ map block_write cs
-writes_joined [] cs = refl
-writes_joined (b ∷ bs) cs = ap (λ (ws : List Write). block_write b ∷ ws) (writes_joined bs cs)
-
 -- what is left begins with the next name
 abbrev pub left_of : List (List ℕ) → ℕ → Form → List CreatedFile
 left_of names i form = all_by (drop i names) form
@@ -152,9 +142,6 @@ pub record IsUnderway (names : List (List ℕ)) (form : Form) (first i at : ℕ)
   pub end : end_from at (left_of names i form) ≡ end_from first (all_by names form)
   pub links : ls ++ links_from at (left_of names i form) ≡ before ++ links_from first (all_by names form)
   pub writes : ws ++ map block_write (sets_from at (left_of names i form)) ≡ begun ++ map block_write (sets_from first (all_by names form))
-
-none_left : (names : List (List ℕ)) (i : ℕ) (form : Form) → length names ≤ i → left_of names i form ≡ []
-none_left names i form h = ap (λ (ns : List (List ℕ)). all_by ns form) (drop_all i names h)
 
 -- once none is left all are done
 pub record IsDone (names : List (List ℕ)) (form : Form) (first at : ℕ) (ls before : List Msg) (ws begun : List Write) : Type 0 where

@@ -28,17 +28,13 @@ use Rattle.h5w_header_laws.specs.Spelled.{message}
 use Rattle.h5w_creation_laws.specs.CreatedFiles.{root_place, group_info_kind}
 use Rattle.h5w_several_creation_laws.specs.SeveralFiles.{AllNamed}
 use Rattle.h5w_several_creation_laws.specs.Links.{AreLinks, IsLink, link_message, link_messages, linking, linking_header_len, linking_len, names_in, names_len, places_in}
-use Rattle.h5w_creation_laws.proofs.SizeLemmas.{length_link}
+use Rattle.h5w_creation_laws.proofs.SizeLemmas.{length_link, length_infos}
 use Rattle.h5w_creation_laws.proofs.RootLemmas.{same_name}
 
 -- ---- How long it is
 
 abbrev Pair : Type 0
 Pair = List ℕ × ℕ
-
-length_infos : (length link_info_bytes ≡ 18) × (length group_info_bytes ≡ 2)
-unfolding le
-length_infos = (refl, refl)
 
 abbrev weight : Msg → ℕ
 weight m = 4 + length m.body

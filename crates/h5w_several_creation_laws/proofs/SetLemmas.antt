@@ -198,17 +198,3 @@ sets_sized place (f ∷ fs) h long =
 pub ends_joined : (end : ℕ) (ws vs : List Write) → WritesEndBy end ws → WritesEndBy end vs → WritesEndBy end (ws ++ vs)
 ends_joined end [] vs h g = g
 ends_joined end (w ∷ ws) vs h g = (h.0, ends_joined end ws vs h.1 g)
-
-ends_below : (end limit : ℕ) (bs : List (ℕ × List ℕ)) → Below limit bs → limit ≤ end → WritesEndBy end (map block_write bs)
-ends_below end limit [] below le = tt
-ends_below end limit (b ∷ bs) below le = let here = below.0 in (omega arith, ends_below end b.0 bs below.1 (omega arith))
-
-pub sets_within : (end place : ℕ) (fs : List CreatedFile) → end_from place fs ≤ end → AllLong place fs → WritesEndBy end (map block_write (sets_from place fs))
-sets_within end place [] le long = tt
-sets_within end place (f ∷ fs) le long =
-    let set = set_at place f in
-    let next = end_behind place f in
-    let rest = sets_from next fs in
-    let above = end_above next fs in
-    subst (WritesEndBy end) (sym (writes_joined set rest))
-    (ends_joined end (map block_write set) (map block_write rest) (ends_below end next set (set_below f.index place f long.0) (omega arith)) (sets_within end next fs le long.1))

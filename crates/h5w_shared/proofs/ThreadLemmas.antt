@@ -21,7 +21,7 @@ take_front (x ∷ xs) ys = ap (λ (l : List Write). x ∷ l) (take_front xs ys)
 image_there : (log : Log) (seen : List Write) → StartsWith (hist log.events) seen → image_at log (length seen) ≡ image log.start seen
 image_there log seen p = ap (λ (l : List Write). image log.start l) (ap (λ (l : List Write). take (length seen) l) p.1 ∙ take_front seen p.0)
 
-after_starts : (start : List ℕ) (from : List Write) (sights : List Sight) → Sights start from sights → StartsWith (seen_after from sights) from
+pub after_starts : (start : List ℕ) (from : List Write) (sights : List Sight) → Sights start from sights → StartsWith (seen_after from sights) from
 after_starts start from [] s = starts_itself from
 after_starts start from (s ∷ ss) p = starts_both (seen_after s.seen ss) s.seen from (after_starts start s.seen ss p.2) p.0
 

@@ -6,14 +6,14 @@ use Rattle.std.proofs.lemmas.Bool.Decides.{nat_tests}
 use mathlib.Core.Option.{some, none, some-ne-none, some-injective}
 use lib.ListN.{get_elem?}
 use prog.Atomic.{either}
-use Rattle.atomic_table.specs.Table.{step, Act, Valid, Allows, Splits, Joins, keeps, takes, gives, carried_after, stepped, opening as opening_table}
+use Rattle.atomic_table.specs.Table.{step, Act, Valid, Allows, Splits, Joins, keeps, takes, gives, carried_after, stepped}
 use Rattle.atomic_table.proofs.Lists.{at_set, at_snoc, at_longer, set_again, set_else, set_here}
 use Rattle.h5w_model.specs.declared.piece.Write.{Write}
 use Rattle.h5w_image.specs.Memory.{MemView}
 use Rattle.h5w_shared.specs.declared.table.Knowledge.{Knowledge}
 use Rattle.h5w_shared.specs.declared.table.Stage.{Stage}
 use Rattle.h5w_shared.specs.declared.table.Stage.TheVariants.{Idle, Waiting, Serving}
-use Rattle.h5w_shared.specs.Turns.{Apart, Current, FoundStore, InStage, Knows, Placed, Returned, Ruled, Sat, Sound, StartsWith, State', after_draw, drawn, ended, finished, informed, last_ticket, looked, newcomer, opening, serving_with, spent, ticket_of, told}
+use Rattle.h5w_shared.specs.Turns.{Apart, Current, FoundStore, InStage, Knows, Placed, Returned, Ruled, Sat, StartsWith, State', after_draw, drawn, ended, finished, informed, last_ticket, looked, newcomer, serving_with, spent, ticket_of, told}
 use Rattle.h5w_shared.proofs.Beginnings.{starts_itself, starts_same, starts_nothing, starts_both, starts_shorter}
 
 off : false ≡ true → ⊥
@@ -364,37 +364,6 @@ ends_as start n id t m v x is one there serves back =
     subst (λ (z : Sat). Allows (Ruled start) n id z 1 (λ k. (k + 1) % 2 ^ 64) (ended (step n 1 1 0 none) z)) (sym is) (ends start n id t v x one there serves back)
 
 -- ---- The first seat, and notes
-
-pub opens : (start : List ℕ) (m : MemView) (n : ℕ) → n ≤ last_ticket → m.start ≡ start → Sound m → m.history ≡ [] → Ruled start (opening_table (n ∷ n ∷ []) (Some m ∷ []) (opening m))
-opens start m n bound begun sound empty = record {
-  store = m;
-  writer = 0;
-  ticket = n;
-  serving = n;
-  begun = begun;
-  sound = sound;
-  words = refl;
-  order = omega arith;
-  bound = bound;
-  knows = only;
-  apart = λ i j t v w ati atj pi pj. absurd (let no = ticketless i v ati in let clash : None ≡ Some t = sym no ∙ pi in cc clash);
-  slot = inl refl;
-}
-  where
-    only : (j : ℕ) (v : Knowledge) → get_elem? (opening m ∷ []) j ≡ some v → Knows start m 0 n n j v
-    only zero v e = subst (Knows start m 0 n n 0) (some-injective (opening m) v e) record {
-      begun = λ _. begun;
-      seen = starts_nothing m.history;
-      told = starts_nothing [];
-      stage = tt;
-      alone = λ _. (refl, (sym empty, refl, refl));
-      worn = λ e. absurd (off e);
-    }
-    only (suc j) v e = absurd (some-ne-none v (sym e))
-
-    ticketless : (i : ℕ) (v : Knowledge) → get_elem? (opening m ∷ []) i ≡ some v → ticket_of v.stage ≡ None
-    ticketless zero v e = ap (λ (z : Knowledge). ticket_of z.stage) (sym (some-injective (opening m) v e))
-    ticketless (suc i) v e = absurd (some-ne-none v (sym e))
 
 pub splits : (start : List ℕ) (id : ℕ) (v : Knowledge) → Splits (Ruled start) id v v (newcomer v)
 splits start id v s r at =

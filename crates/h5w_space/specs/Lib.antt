@@ -1,2 +1,3 @@
 pub mod Space
 pub mod Groups
+pub mod Ranges

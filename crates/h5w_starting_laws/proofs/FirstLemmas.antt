@@ -16,10 +16,12 @@ use Rattle.h5w_cache.specs.Stores.{Store, place_of, times}
 use Rattle.h5w_cache.specs.Plans.{bytes_in, numbers}
 use Rattle.h5w_cache.specs.StoreLaws.{AreThere}
 use Rattle.h5w_cache.specs.declared.moves.Move.{Move}
+use Rattle.h5w_cache.proofs.LawLemmas.{no_move}
 use Rattle.h5w_chunks.specs.declared.grid.ChunkPlace.{ChunkPlace}
 use Rattle.h5w_header_laws.specs.Files.{with_index, with_rows}
 use Rattle.h5w_steps.specs.Moments.{Moment}
 use Rattle.h5w_steps.specs.Counts.{count_at}
+use Rattle.h5w_steps.proofs.PartLemmas.{count_joined}
 use Rattle.h5w_array_laws.specs.Among.{AreAmong}
 use Rattle.h5w_array_laws.specs.Parts.{index_block}
 use Rattle.h5w_array_laws.specs.ArrayStores.{fixed_of, behind_of, blocks_in_place, header_place}
@@ -30,17 +32,17 @@ use Rattle.h5w_array_laws.proofs.FoundLemmas.{address_found}
 use Rattle.h5w_array_laws.proofs.PlanLemmas.{copy_before, header_after}
 use Rattle.h5w_array_laws.proofs.PlannedLemmas.{is_marked}
 use Rattle.h5w_array_laws.proofs.StandLemmas.{header_placed, header_stands}
-use Rattle.h5w_array_laws.proofs.StoreLemmas.{no_move, changed_moved, clean_before, listed_before, stands_after}
+use Rattle.h5w_array_laws.proofs.StoreLemmas.{changed_moved, clean_before, listed_before, stands_after}
 use Rattle.h5w_array_laws.proofs.VisitedLemmas.{visited}
 use Rattle.h5w_array_laws.proofs.WriteLemmas.{which_part}
 use Rattle.h5w_flush_laws.specs.Knowledge.{HeldMissed, Knows}
 use Rattle.h5w_flush_laws.specs.Spaces.{AllLive, Taken}
 use Rattle.h5w_flush_laws.specs.Parts.{AreEnded, EachSays, IsFlush, Parts, SaysInPlace, block_ranges, block_writes, committed, copied, ended, fresh_of}
 use Rattle.h5w_flush_laws.specs.Rows.{ArePlaced, RowsPart}
-use Rattle.h5w_flush_laws.proofs.PartLemmas.{count_append}
+use Rattle.h5w_flush_laws.specs.Chunks.{AreChunks, chunks_for}
 use Rattle.h5w_flush_laws.proofs.SpaceLemmas.{taken_laws}
 use Rattle.h5w_flush_laws.proofs.RowsLaws.{rows_flush}
-use Rattle.h5w_array_flushes.specs.ArrayFlushes.{AreChunks, ArePlaces, IsArrayPart, chunks_for}
+use Rattle.h5w_array_flushes.specs.ArrayFlushes.{ArePlaces, IsArrayPart}
 use Rattle.h5w_array_flushes.proofs.ArrayLaws.{new_are}
 use Rattle.h5w_array_flushes.proofs.ArrayPlaceLemmas.{array_places}
 use Rattle.h5w_starting_laws.specs.Starting.{no_chunk, IsBlank}
@@ -137,7 +139,7 @@ module _ (m : Moment) (b t : Space) (u v w : Store) (ms : List Move) (chunks : L
         at = refl;
         stay = refl;
         stands = record { there = none_there img; headed = header_after w v img (sym (ap header_of planned.stay)) (sym (ap second_of planned.stay)) (all_written []).headed };
-        behind = record { among = λ l a. among_left l chunks m.behind (chunks_alone.among l a); counts = λ p. omega (arith, chunks_alone.counts p, count_append p chunks m.behind) };
+        behind = record { among = λ l a. among_left l chunks m.behind (chunks_alone.among l a); counts = λ p. omega (arith, chunks_alone.counts p, count_joined p chunks m.behind) };
         plan = x.plan;
         copied = x.copied;
       }
@@ -198,8 +200,8 @@ module _ (img name : List ℕ) (m : Moment) (base b t : Space) (u v w : Store) (
   counted p =
       let one = shows.into.counts p in
       let two = shows.back.counts p in
-      let three = count_append p chunks (fresh ms ++ block_ranges first) in
-      let four = count_append p (fresh ms) (block_ranges first) in
+      let three = count_joined p chunks (fresh ms ++ block_ranges first) in
+      let four = count_joined p (fresh ms) (block_ranges first) in
       ap (count_at p) fresh_is ∙ sums (count_at p (chunks ++ (fresh ms ++ block_ranges first))) (count_at p chunks) (count_at p (fresh ms ++ block_ranges first)) (count_at p (fresh ms)) (count_at p (block_ranges first)) (count_at p tops) one two three four
     where
       sums : (whole c rest g h k : ℕ) → h ≤ k → k ≤ h → whole ≡ c + rest → rest ≡ g + h → whole ≡ c + (g + k)
@@ -236,7 +238,7 @@ module _ (img name : List ℕ) (m : Moment) (base b t : Space) (u v w : Store) (
       (record { among = λ l a. back l (of_fresh l a); counts = λ p. let c = count p in omega (arith, c, counted p) })
     where
       count : (p : ℕ) → count_at p ((tops ++ chunks) ++ fresh ms) ≡ count_at p chunks + (count_at p (fresh ms) + count_at p tops)
-      count p = omega (arith, count_append p (tops ++ chunks) (fresh ms), count_append p tops chunks)
+      count p = omega (arith, count_joined p (tops ++ chunks) (fresh ms), count_joined p tops chunks)
 
       top : (l : Used) → Among l tops ⊎ Among l chunks → Among l (fresh_of f)
       top l (inl c) = in_fresh l (inr (inr c))
@@ -311,8 +313,8 @@ module _ (img name : List ℕ) (m : Moment) (base b t : Space) (u v w : Store) (
       counts : (p : ℕ) → count_at p (fixed_of w ++ behind_of sizes w) ≤ count_at p (fresh_of f ++ (m.fixed ++ m.behind))
       counts p =
           all_in (count_at p (fixed_of w ++ behind_of sizes w)) (count_at p (fresh_of f ++ (m.fixed ++ m.behind))) (count_at p (fresh_of f)) (count_at p (m.fixed ++ m.behind)) (count_at p (fixed_of w)) (count_at p (behind_of sizes w)) (count_at p chunks)
-          (count_at p (fresh ms)) (count_at p (behind_of sizes v)) (count_at p tops) (count_at p m.fixed) (count_at p m.behind) (count_append p (fixed_of w) (behind_of sizes w)) (count_append p (fresh_of f) (m.fixed ++ m.behind)) (counted p)
-          (subst (λ n. count_at p (behind_of sizes w) ≤ n) (count_append p (fresh ms) (behind_of sizes v)) ((plan.behind sizes).counts p)) (alone.counts p) (ap (count_at p) shows.whole ∙ count_append p m.fixed tops) (count_append p m.fixed m.behind)
+          (count_at p (fresh ms)) (count_at p (behind_of sizes v)) (count_at p tops) (count_at p m.fixed) (count_at p m.behind) (count_joined p (fixed_of w) (behind_of sizes w)) (count_joined p (fresh_of f) (m.fixed ++ m.behind)) (counted p)
+          (subst (λ n. count_at p (behind_of sizes w) ≤ n) (count_joined p (fresh ms) (behind_of sizes v)) ((plan.behind sizes).counts p)) (alone.counts p) (ap (count_at p) shows.whole ∙ count_joined p m.fixed tops) (count_joined p m.fixed m.behind)
         where
           all_in : (whole total new old fw bw c fr bv tp fm bm : ℕ) → whole ≡ fw + bw → total ≡ new + old → new ≡ c + (fr + tp) → bw ≤ fr + bv → bv ≤ c → fw ≡ fm + tp → old ≡ fm + bm → whole ≤ total
           all_in whole total new old fw bw c fr bv tp fm bm h1 h2 h3 h4 h5 h6 h7 = omega (arith, h1, h2, h3, h4, h5, h6, h7)

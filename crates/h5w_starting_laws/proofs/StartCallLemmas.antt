@@ -24,9 +24,9 @@ use Rattle.h5w_steps.specs.Sessions.{Runs}
 use Rattle.h5w_model.specs.Images.{image}
 use Rattle.h5w_model.specs.Headers.{with_rows_bytes}
 use Rattle.h5w_model.specs.Logs.{plans, and_now}
+use Rattle.h5w_flush_laws.specs.Chunks.{chunks_for}
 use Rattle.h5w_array_flushes.specs.ArrayBegins.{Begins}
 use Rattle.h5w_flush_laws.proofs.SpaceLemmas.{taken_laws}
-use Rattle.h5w_array_flushes.specs.ArrayFlushes.{chunks_for}
 use Rattle.h5w_starting_laws.specs.Starting.{no_chunk, IsBlank, StartKnows}
 use Rattle.h5w_starting_laws.specs.StartFlushes.{HasStartingPart, parts_for}
 use Rattle.h5w_starting_laws.specs.StartCalls.{AreStartCalls, CallsStart, StartCalls, TwoTaken, StartPending, first_shown}

@@ -21,7 +21,7 @@ use Rattle.h5w_array_laws.proofs.StandLemmas.{header_length, index_length, stand
 use Rattle.h5w_flush_laws.specs.Knowledge.{HeldMissed}
 use Rattle.h5w_flush_laws.specs.Spaces.{Taken}
 use Rattle.h5w_flush_laws.specs.Parts.{Parts, IsFlush, block_ranges, block_writes, committed, copied}
-use Rattle.h5w_array_flushes.specs.ArrayFlushes.{chunks_for}
+use Rattle.h5w_flush_laws.specs.Chunks.{chunks_for}
 use Rattle.h5w_starting_laws.specs.Starting.{no_chunk, IsNowhere, StartKnows}
 use Rattle.h5w_starting_laws.specs.StartFlushes.{first_blocks, parts_for, IsStart, StartIsFlush}
 use Rattle.h5w_starting_laws.proofs.FirstLemmas as first

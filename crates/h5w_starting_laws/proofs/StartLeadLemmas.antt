@@ -17,8 +17,8 @@ use Rattle.h5w_array_laws.specs.ArrayWrites.{MissArray}
 use Rattle.h5w_array_laws.proofs.WriteLemmas.{writes_leave}
 use Rattle.h5w_flush_laws.specs.Knowledge.{HeldMissed}
 use Rattle.h5w_flush_laws.specs.Parts.{Parts, IsFlush, copied, block_writes}
+use Rattle.h5w_flush_laws.specs.Chunks.{chunks_for}
 use Rattle.h5w_flush_laws.proofs.FlushLemmas.{supers_miss}
-use Rattle.h5w_array_flushes.specs.ArrayFlushes.{chunks_for}
 use Rattle.h5w_array_flushes.proofs.ArrayFlushLemmas.{placed_range}
 use Rattle.h5w_starting_laws.specs.Starting.{no_chunk, StartKnows}
 use Rattle.h5w_starting_laws.specs.StartFlushes.{first_blocks, parts_for, IsStart, IsStarted, StartLeads, StartRuns}

@@ -14,6 +14,7 @@ use Rattle.h5w_model.specs.declared.refusal.ReadError.{ReadError}
 use Rattle.h5w_visits.specs.Ranges.{Among, Disjoint, block_at, blocks_of}
 use Rattle.h5w_visits.specs.Indexes.{behind_visit}
 use Rattle.h5w_space.specs.Space.{Commits, Space, IsLive, Apart, extent}
+use Rattle.h5w_space.proofs.Sound.{Apart-sym}
 use Rattle.h5w_cache.specs.Stores.{Store, place_of}
 use Rattle.h5w_cache.specs.Plans.{bytes_in}
 use Rattle.h5w_cache.specs.StoreLaws.{IsPlaced, Standing, range_of}
@@ -25,8 +26,8 @@ use Rattle.h5w_array_laws.proofs.WriteLemmas.{which_part}
 use Rattle.h5w_array_laws.proofs.CreatedLemmas.{created_starts}
 use Rattle.h5w_flush_laws.specs.Spaces.{extent_of, AllLive, Taken}
 use Rattle.h5w_flush_laws.specs.Knowledge.{KnownHeld}
-use Rattle.h5w_flush_laws.proofs.SpaceLemmas.{have_no_byte, apart_back, committed_live}
-use Rattle.h5w_flush_laws.proofs.KnownLaws.{begin_knows, end_known}
+use Rattle.h5w_flush_laws.proofs.SpaceLemmas.{have_no_byte, committed_live}
+use Rattle.h5w_flush_laws.proofs.KnownLaws.{begin_knows, end_known, one_answer}
 use Rattle.h5w_flush_laws.proofs.FlushLaws.{freed_known}
 use Rattle.h5w_array_flushes.proofs.ArrayRestLemmas.{standing_freed}
 use Rattle.h5w_starting_laws.specs.Starting.{no_chunk, IsUnnamed, IsBlank, StartRests, UnnamedNowhere, CreatedBlank, BlankMap, BlankHeld, StartBegins, StartOf, StartEnds, StartFreed, StartTakes, RestsStay}
@@ -36,9 +37,6 @@ use Rattle.h5w_starting_laws.specs.Starting.{no_chunk, IsUnnamed, IsBlank, Start
 pub of_unnamed : {A : Type 0} (d : Described) (f : Prog (Result InPlace ReadError) → A) → d.layout.address ≡ undefined → f (in_place d) ≡ f (ret (Ok nowhere))
 of_unnamed d f e =
     ap (λ c. f (cond c (ret (Ok nowhere)) (elim d.layout.index as (λ _. Prog (Result InPlace ReadError)) [ Array ↦ array_in_place d.layout.address | Tree ↦ tree_in_place d.layout.address ]))) (eq-eqb d.layout.address undefined e)
-
-pub one_answer : (p q : InPlace) → ◌≡◌ {A = Result InPlace ReadError} (Ok p) (Ok q) → p ≡ q
-one_answer p q h = cc
 
 pub one_list : (us vs : List Used) → ◌≡◌ {A = Result (List Used) Finding} (Ok us) (Ok vs) → us ≡ vs
 one_list us vs h = cc
@@ -105,7 +103,7 @@ blank_standing s v a blank off live = record {
     apart n j ne x y (inr (inr e)) (inr (inr f)) = absurd (ne (e ∙ sym f))
     apart n j ne x y (inr (inr e)) (inr (inl f)) = subst (λ i. Apart (range_of v i) (range_of v j)) (sym e) (subst (λ i. Apart (range_of v 846) (range_of v i)) (sym f) two)
     apart n j ne x y (inr (inl e)) (inr (inr f)) =
-        subst (λ i. Apart (range_of v i) (range_of v j)) (sym e) (subst (λ i. Apart (range_of v 845) (range_of v i)) (sym f) (apart_back (range_of v 846) (range_of v 845) two))
+        subst (λ i. Apart (range_of v i) (range_of v j)) (sym e) (subst (λ i. Apart (range_of v 845) (range_of v i)) (sym f) (Apart-sym (range_of v 846) (range_of v 845) two))
 
 -- ---- What is known
 

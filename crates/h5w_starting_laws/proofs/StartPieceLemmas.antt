@@ -107,10 +107,10 @@ copy_writes m u v w s t ms chunks copies fixed x =
     flat_map-append (λ (b : ℕ × List ℕ). pieces b.0 b.1) copies (first_blocks w)
     ∙ ap (λ (ws : List Write). block_writes copies ++ ws) (first_writes m u v w s t ms chunks copies fixed x)
 
-regrouped : (a b c d : List Write) → (a ++ ((b ++ c) ++ (d ++ []))) ≡ a ++ (b ++ (c ++ d))
+pub regrouped : (a b c d : List Write) → (a ++ ((b ++ c) ++ (d ++ []))) ≡ a ++ (b ++ (c ++ d))
 regrouped a b c d = ap (λ (x : List Write). a ++ ((b ++ c) ++ x)) (append-nil d) ∙ ap (λ (x : List Write). a ++ x) (append_assoc b c d)
 
-last_in : (a b c d e : List Write) → (a ++ (b ++ (c ++ d))) ++ e ≡ a ++ (b ++ (c ++ (d ++ e)))
+pub last_in : (a b c d e : List Write) → (a ++ (b ++ (c ++ d))) ++ e ≡ a ++ (b ++ (c ++ (d ++ e)))
 last_in a b c d e =
     append_assoc a (b ++ (c ++ d)) e
     ∙ ap (λ (x : List Write). a ++ x) (append_assoc b (c ++ d) e ∙ ap (λ (x : List Write). b ++ x) (append_assoc c d e))

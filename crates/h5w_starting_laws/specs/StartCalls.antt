@@ -27,7 +27,7 @@ use Rattle.h5w_array_laws.specs.ArrayPlans.{IsArrayPlan}
 use Rattle.h5w_flush_laws.specs.Spaces.{Taken}
 use Rattle.h5w_flush_laws.specs.Parts.{AreEnded, block_writes, committed, pieces_of}
 use Rattle.h5w_flush_laws.specs.Rows.{ArePlaced}
-use Rattle.h5w_array_flushes.specs.ArrayFlushes.{chunks_for}
+use Rattle.h5w_flush_laws.specs.Chunks.{chunks_for}
 use Rattle.h5w_array_flushes.specs.ArrayBegins.{Begins}
 use Rattle.h5w_starting_laws.specs.Starting.{no_chunk, IsBlank, StartKnows}
 use Rattle.h5w_starting_laws.specs.StartFlushes.{IsStart, parts_for}

@@ -27,7 +27,8 @@ use Rattle.h5w_flush_laws.specs.Spaces.{Taken}
 use Rattle.h5w_flush_laws.specs.Parts.{Parts, AreEnded, IsFlush, flushed_to, pieces_of, block_ranges, block_writes}
 use Rattle.h5w_flush_laws.specs.Rows.{ArePlaced}
 use Rattle.h5w_flush_laws.specs.Flushes.{Rests, shown_also, flush_planned}
-use Rattle.h5w_array_flushes.specs.ArrayFlushes.{ArrayRests, chunks_for}
+use Rattle.h5w_flush_laws.specs.Chunks.{chunks_for}
+use Rattle.h5w_array_flushes.specs.ArrayFlushes.{ArrayRests}
 use Rattle.h5w_array_flushes.specs.ArrayBegins.{Begins}
 use Rattle.h5w_starting_laws.specs.Starting.{no_chunk, StartKnows}
 

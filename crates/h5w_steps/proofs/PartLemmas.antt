@@ -1,5 +1,5 @@
 -- Ranges that do not meet, and parts of them.
-use Rattle.std.proofs.Common.{◌≡◌, ◌≢◌, ◌⊎◌, ℕ, ◌<◌, ◌≤◌, Bool, true, false, eqb, List, [], ◌∷◌, ◌++◌, refl, sym, ◌∙◌, ap, subst, inl, inr, arith}
+use Rattle.std.proofs.Common.{◌≡◌, ◌≢◌, ◌⊎◌, ℕ, ◌<◌, ◌≤◌, Bool, true, false, eqb, List, [], ◌∷◌, ◌++◌, refl, sym, ◌∙◌, ap, subst, inl, inr, arith, ◌+◌}
 use Rattle.std.specs.Prelude.{◌==◌, if◌then◌else◌}
 use Rattle.std.proofs.lemmas.Bool.{eq-eqb}
 use Rattle.std.proofs.lemmas.Bool.Decides.{eqb_tells}
@@ -96,3 +96,8 @@ disjoint_part all (u ∷ us) d sub counts = (
         let own : one_if (u.place == u.place) ≡ 1 = ap one_if (eq-eqb u.place u.place refl) in
         absurd (omega (arith, own, counted_one v u.place us a t.1, counts u.place, at_most_one u.place all d))
     apart v a (inr t) = disjoint_two all u v d (sub u (inl refl)) (sub v (inr a)) (λ e. t.1 (ap (λ (y : Used). y.place) (sym e)))
+
+-- two lists count together
+pub count_joined : (p : ℕ) (us vs : List Used) → count_at p (us ++ vs) ≡ count_at p us + count_at p vs
+count_joined p [] vs = omega arith
+count_joined p (u ∷ us) vs = omega (arith, count_joined p us vs)

@@ -28,7 +28,7 @@ use Rattle.h5w_visits.proofs.RangeLemmas.{among_left, among_right}
 use Rattle.h5w_visits.proofs.HeaderLaws.{header_tells}
 use Rattle.h5w_visits.proofs.IndexVisits.{NoBlock, HasBlock, array_cases}
 use Rattle.h5w_visits.proofs.IndexLaws.{index_as, index_missed, checked_index, visited_behind, behind_missed}
-use Rattle.h5w_visits.proofs.NeededLaws.{table_laws, table_any}
+use Rattle.h5w_visits.proofs.NeededLaws.{table_laws, table_any, same_addresses}
 use Rattle.h5w_steps.specs.Moments.{Moment, HasCells, all_used}
 use Rattle.h5w_steps.specs.Steps.{LiesIn, switches, commits}
 use Rattle.h5w_steps.specs.Writers.{NamingSwitches, GrowingCommits, StartingCommits}
@@ -155,12 +155,6 @@ keys_first f from (suc n) zero h = absurd (omega (arith, h))
 keys_first f from (suc n) (suc total) h =
     let later = keys_first f (from + 1) n total (omega (arith, h)) in
     (later.0, ap (λ (ks : List Key). f from ∷ ks) later.1)
-
-abbrev pub addresses_are : List ℕ → Result (List ℕ) ReadError
-addresses_are xs = Ok xs
-
-pub same_addresses : (xs ys : List ℕ) → addresses_are xs ≡ addresses_are ys → xs ≡ ys
-same_addresses xs ys h = cc
 
 pub one_address : (a b : ℕ) (r : Result ℕ ReadError) → r ≡ Ok a → r ≡ Ok b → a ≡ b
 one_address a b r h g = cc

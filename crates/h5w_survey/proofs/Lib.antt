@@ -1,4 +1,3 @@
-pub mod LookLemmas
 pub mod StepLemmas
 pub mod ReadingLemmas
 pub mod WholeLemmas

@@ -1,13 +1,13 @@
 -- What a reading of a valid file is.
 use Rattle.std.proofs.Common.{◌≡◌, ◌⊎◌, ℕ, suc, ◌%◌, ◌/◌, ◌≤◌, Bool, true, false, cond, ◌&&◌, ◌||◌, not, List, [], ◌∷◌, length, Result, Ok, Err, refl, sym, ap, ◌∙◌, subst, inl, inr}
 use Rattle.std.specs.Prelude.{◌==◌, if◌then◌else◌, nat_lt}
-use Rattle.std.proofs.lemmas.Bool.{cases_Bool, cond-false, cond-true, eqb-true, ltb-false}
+use Rattle.std.proofs.lemmas.Bool.{cases_Bool, cond-false, cond-true, eqb-true, ltb-false, or_cases}
 use Rattle.h5w_laws.proofs.NumberLemmas.{needed_count}
 use Rattle.h5w_model.specs.Numbers.{range, field}
 use Rattle.h5w_model.specs.Programs.{Prog, ret, eval, and_then}
 use Rattle.h5w_model.specs.Superblock.{super_at}
 use Rattle.h5w_model.specs.Headers.{header_view}
-use Rattle.h5w_model.specs.Messages.{ShapeFields, byte, is_shape, shape_at, shape_fields, shape_tests, unlimited}
+use Rattle.h5w_model.specs.Messages.{ShapeFields, byte, is_shape, shape_at, shape_fields, shape_tests}
 use Rattle.h5w_model.specs.Datasets.{Described, FoundMessage, dataset, dataset_messages, dataset_place, described, is_swmr, linked, root_header, super_refusal, superblock, refused_as, then_also}
 use Rattle.h5w_model.specs.Tables.{Reading, Shows, address_behind, each_of, format_limits, in_place, limit_of, needed, needed_keys, needed_table, table_of}
 use Rattle.h5w_model.specs.declared.cell.Key.{Key}
@@ -23,37 +23,17 @@ use Rattle.h5w_laws.specs.Several.{IsShare}
 use Rattle.h5w_steps.proofs.MomentLemmas.{super_parts}
 use Rattle.h5w_model.specs.Findings.{AllSummary, Summary, Valid}
 use Rattle.h5w_model.specs.Relations.{AllPaired}
+use Rattle.h5w_header_laws.proofs.ShapeLemmas.{by_rank}
 use Rattle.h5w_several_laws.specs.Together.{IsAllValid}
 use Rattle.h5w_survey.specs.Surveys.{IsWhole, is_written}
 
 -- ---- The shape
 
-two_of : (a b : Bool) → (a || b) ≡ true → (a ≡ true) ⊎ (b ≡ true)
-two_of true b h = inl refl
-two_of false b h = inr h
-
--- a second dimension whose maximum is none, or is its size
-by_side : (most cols : ℕ) → ((most == unlimited) || (most == cols)) ≡ true → ((most == unlimited) || not (cols == unlimited)) ≡ true
-by_side most cols h = by (most == unlimited) refl h
-  where
-    by : (b : Bool) → (most == unlimited) ≡ b → (b || (most == cols)) ≡ true → (b || not (cols == unlimited)) ≡ true
-    by true e g = refl
-    by false e g =
-        let same : most ≡ cols = eqb-true most cols g in
-        ap not (ap (λ n. n == unlimited) (sym same) ∙ e)
-
-by_rank : (rank rows cols most : ℕ) → (rank ≡ 1) ⊎ (rank ≡ 2) → ((rank == 1) || (most == unlimited) || (most == cols)) ≡ true
-    → is_shape (record { rank = rank; rows = rows; cols = if rank == 1 then 1 else cols; growing = (rank == 2) && (most == unlimited) }) ≡ true
-by_rank rank rows cols most (inl e) h = subst (λ n. is_shape (record { rank = n; rows = rows; cols = if n == 1 then 1 else cols; growing = (n == 2) && (most == unlimited) }) ≡ true) (sym e) refl
-by_rank rank rows cols most (inr e) h =
-    subst (λ n. is_shape (record { rank = n; rows = rows; cols = if n == 1 then 1 else cols; growing = (n == 2) && (most == unlimited) }) ≡ true) (sym e)
-    (by_side most cols (subst (λ n. ((n == 1) || (most == unlimited) || (most == cols)) ≡ true) e h))
-
 shaped_by : (space : List ℕ) (s : ShapeFields) → shape_at space ≡ Ok s → is_shape s ≡ true
 unfolding shape_at shape_tests shape_fields
 shaped_by space s h =
     let shape = checked-passed (shape_tests space) (shape_fields space) s h in
-    let ranked = two_of (byte space 1 == 1) (byte space 1 == 2) shape.0.1.1.0 in
+    let ranked = or_cases (byte space 1 == 1) (byte space 1 == 2) shape.0.1.1.0 in
     let rank : (byte space 1 ≡ 1) ⊎ (byte space 1 ≡ 2) = elim ranked [ inl t ↦ inl (eqb-true (byte space 1) 1 t) | inr t ↦ inr (eqb-true (byte space 1) 2 t) ] in
     subst (λ (x : ShapeFields). is_shape x ≡ true) shape.1 (by_rank (byte space 1) (field space 4 8) (field space 12 8) (field space 28 8) rank shape.0.1.1.1.1.1.1.1.0)
 

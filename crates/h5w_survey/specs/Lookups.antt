@@ -1,6 +1,6 @@
--- The program of a reading, cut behind the superblock and behind the link; and how many looks a program takes at most.
-use Rattle.std.specs.Prelude.{ℕ, zero, suc, max, List, [], ◌∷◌, Result, Ok}
-use Rattle.h5w_model.specs.Programs.{Prog, ret, whole, counted, stored, and_then}
+-- The program of a reading, cut behind the superblock and behind the link.
+use Rattle.std.specs.Prelude.{ℕ, List, [], ◌∷◌, Result, Ok}
+use Rattle.h5w_model.specs.Programs.{Prog, ret, and_then}
 use Rattle.h5w_model.specs.Datasets.{Described, dataset, linked, root_header}
 use Rattle.h5w_model.specs.Tables.{Reading, format_limits, needed_table}
 use Rattle.h5w_model.specs.declared.refusal.ReadError.{ReadError}
@@ -22,22 +22,3 @@ place_behind root name = and_then (root_header root) (λ h. ret (linked name h.m
 -- from the root header at a place on
 abbrev pub behind_root : ℕ → List ℕ → Prog (Result Reading ReadError)
 behind_root root name = and_then (place_behind root name) behind_place
-
--- ---- Looks
-
--- the greatest of f 0 to f n
-abbrev pub greatest_to : ℕ → (ℕ → ℕ) → ℕ
-greatest_to zero f = f 0
-greatest_to (suc n) f = max (f (suc n)) (greatest_to n f)
-
--- the greatest at a list of at most n bytes
-abbrev pub greatest_at : ℕ → (List ℕ → ℕ) → ℕ
-greatest_at zero f = f []
-greatest_at (suc n) f = max (f []) (greatest_to 255 (λ b. greatest_at n (λ bs. f (b ∷ bs))))
-
--- the most looks of a program of plain looks, whatever bytes they give
-abbrev pub most_looks : {A : Type 0} → Prog A → ℕ
-most_looks (ret a) = 0
-most_looks (whole at len next) = suc (greatest_at len (λ b. most_looks (next b)))
-most_looks (counted at counts next) = 0
-most_looks (stored kind at len next) = 0

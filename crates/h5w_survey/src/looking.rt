@@ -8,7 +8,7 @@ ghost use Rattle.h5w_image.specs.View.{Looked};
 ghost use Rattle.h5w_looks.specs.Still.{IsStill};
 ghost use Rattle.h5w_lookup.specs.Attempts.{looked_up, looking_up, rules_of};
 ghost use Rattle.h5w_lookup.specs.Descents.{reading_news};
-ghost use Rattle.h5w_survey.specs.Lookups.{most_looks};
+ghost use Rattle.h5w_laws.specs.MostLooks.{most_looks};
 
 use h5w_image::{ImageError, Piece, PieceRead};
 use h5w_lookup::{Lookup, News, Outcome, Rules};

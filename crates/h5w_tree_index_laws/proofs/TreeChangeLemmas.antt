@@ -15,8 +15,9 @@ use Rattle.h5w_bt_nodes.specs.Blocks.{changes, stood}
 use Rattle.h5w_bt_index.proofs.Laws.{index_shaped}
 use Rattle.h5w_bt_nodes.proofs.Over.{OnTheWay, on_the_way}
 use Rattle.h5w_bt_nodes.proofs.Places.{at_place, none_is_not, some_same}
-use Rattle.h5w_bt_index.proofs.Replaced.{clean_stood, put_changed}
+use Rattle.h5w_bt_index.proofs.Replaced.{put_changed}
 use Rattle.h5w_bt_nodes.proofs.Steps.{is_there, not_there, put_below, put_here, renewed, settled_not, settled_over, there, went_down}
+use Rattle.h5w_bt_index.proofs.Placed.{clean_stood}
 use Rattle.h5w_tree_index_laws.specs.TreeImages.{InsertedChanges}
 
 -- ---- The changed nodes of a node

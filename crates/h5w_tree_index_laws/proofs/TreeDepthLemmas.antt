@@ -1,7 +1,7 @@
 -- How many records a tree has, by its depth and by their keys.
-use Rattle.std.proofs.Common.{◌≡◌, ◌⊎◌, ℕ, zero, suc, ◌+◌, ◌*◌, ◌<◌, ◌≤◌, true, ◌&&◌, eqb, ltb, List, [], ◌∷◌, length, map, None, sym, ap, ◌∙◌, subst, inl, inr, arith, sum_by}
+use Rattle.std.proofs.Common.{◌≡◌, ◌⊎◌, ℕ, zero, suc, ◌+◌, ◌*◌, ◌<◌, ◌≤◌, true, ◌&&◌, eqb, List, [], ◌∷◌, length, map, None, sym, ap, ◌∙◌, subst, inl, inr, arith, sum_by}
 use Rattle.std.specs.List.{All}
-use Rattle.std.proofs.lemmas.Bool.{and_parts, eqb-true, ltb-true, or_cases}
+use Rattle.std.proofs.lemmas.Bool.{and_parts, eqb-true}
 use Rattle.std.proofs.lemmas.List.{length-map}
 use Rattle.std.proofs.lemmas.List.Elements.{All-cons, All-head, All-nil, All-tail}
 use Rattle.std.proofs.lemmas.List.Sums.{sum_by-cons}
@@ -10,12 +10,12 @@ use Rattle.h5w_model.specs.Tables.{key_below}
 use Rattle.h5w_model.specs.Trees.{capacity_of}
 use Rattle.h5w_model.specs.declared.cell.Key.{Key}
 use Rattle.h5w_bt.specs.declared.records.Record.{Record}
+use Rattle.h5w_bt.proofs.KeyLemmas.{equal-self, below-not_self, below_is}
 use Rattle.h5w_bt_nodes.specs.Nodes.{Tree, address_in, all_records, records_of}
 use Rattle.h5w_bt_nodes.specs.Puts.{is_full_path}
 use Rattle.h5w_bt_index.specs.Sound.{AtLeast, IsRising, IsSound, two_fifths}
 use Rattle.h5w_bt_index.specs.Index.{records}
 use Rattle.h5w_bt_index.proofs.Joined.{length-joined}
-use Rattle.h5w_bt_index.proofs.Keys.{below-not_self, equal-self}
 use Rattle.h5w_bt_nodes.proofs.Records.{in-here, in-under, none_is_not_some}
 use Rattle.h5w_tree_index_laws.specs.TreeDepths.{DeepIsMany, WithinIsFew}
 
@@ -67,15 +67,6 @@ deep_is_many v key i h deep =
 
 abbrev Within : ℕ → ℕ → Record → Type 0
 Within bands across r = (r.key.i < bands) × (r.key.j < across)
-
-abbrev Less : Key → Key → Type 0
-Less a b = (a.i < b.i) ⊎ ((a.i ≡ b.i) × (a.j < b.j))
-
-below_is : (a b : Key) → key_below a b ≡ true → Less a b
-below_is a b h = elim (or_cases (ltb a.i b.i) (eqb a.i b.i && ltb a.j b.j) h) [
-  | inl l ↦ inl (ltb-true a.i b.i l)
-  | inr r ↦ (let p = and_parts (eqb a.i b.i) (ltb a.j b.j) r in inr (eqb-true a.i b.i (p.0), ltb-true a.j b.j (p.1)))
-]
 
 -- the number of a key in rising order
 abbrev number : ℕ → Key → ℕ

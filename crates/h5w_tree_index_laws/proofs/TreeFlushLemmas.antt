@@ -23,19 +23,21 @@ use Rattle.h5w_steps.specs.Moments.{Moment, all_used}
 use Rattle.h5w_steps.specs.Steps.{LiesIn}
 use Rattle.h5w_steps.specs.Counts.{count_at}
 use Rattle.h5w_steps.proofs.MomentLemmas.{in_fixed, in_behind}
+use Rattle.h5w_steps.proofs.PartLemmas.{count_joined}
 use Rattle.h5w_flush_laws.specs.Spaces.{Taken, extent_of}
 use Rattle.h5w_flush_laws.specs.Knowledge.{IsAsked, Knows}
 use Rattle.h5w_flush_laws.specs.Parts.{AllUnseen, AreEnded, EachSays, IndexFlushed, Parts, SaysInPlace, block_ranges, block_writes, committed}
-use Rattle.h5w_flush_laws.proofs.PartLemmas.{count_append}
+use Rattle.h5w_flush_laws.specs.Chunks.{AreChunks}
 use Rattle.h5w_flush_laws.proofs.SpaceLemmas.{meet_nowhere}
 use Rattle.h5w_flush_laws.proofs.EarlyLemmas.{blocks_miss}
+use Rattle.h5w_flush_laws.proofs.FlushLemmas.{unseen_miss}
 use Rattle.h5w_bt_nodes.specs.Nodes.{Tree}
 use Rattle.h5w_bt_index.specs.Marks.{Part, clean_of}
 use Rattle.h5w_bt_index.specs.Index.{Index, IsClean, IsIndex, address_of, no_tree}
 use Rattle.h5w_bt_nodes.specs.Blocks.{changes, place_of, placed, written}
-use Rattle.h5w_bt_index.specs.Plans.{AreNodeMoves, header_of, header_writes, news, planned}
+use Rattle.h5w_bt_index.specs.Plans.{AreNodeMoves, header_of, news, planned}
 use Rattle.h5w_tree_index_laws.specs.TreeImages.{AllStand, AreAmong, IsRead, StandsTree, behind_of, blocks_in_place}
-use Rattle.h5w_tree_index_laws.specs.TreeFlushes.{AreChunks, HeaderNames, IsTreePart, TreeFlushed, header_range, tree_parts}
+use Rattle.h5w_tree_index_laws.specs.TreeFlushes.{HeaderNames, IsTreePart, TreeFlushed, header_range, tree_parts}
 use Rattle.h5w_bt_nodes.proofs.NodeBytes.{take_whole}
 use Rattle.h5w_bt_index.proofs.Placed.{planned_index}
 use Rattle.h5w_tree_index_laws.proofs.TreeHeaderLemmas.{header_says, header_long, header_written, names_again, part_range, tree_left}
@@ -76,12 +78,6 @@ clean_differs v f e = never (sym f ∙ ap (λ (w : Index). clean_of w.depth w.ro
   where
     never : ◌≡◌ {A = Bool} false true → ⊥
     never e = cc
-
--- ---- Writes that are unseen
-
-pub unseen_miss : (m : Moment) (ws : List Write) (u : Used) → AllUnseen m ws → Among u (all_used m) → u.chunk ≡ false → AllMiss ws u.place u.len
-unseen_miss m [] u h a block = tt
-unseen_miss m (w ∷ ws) u h a block = (h.0.off_blocks u a block, unseen_miss m ws u h.1 a block)
 
 -- ---- The index's part
 
@@ -313,9 +309,9 @@ module _ (img name : List ℕ) (m : Moment) (old : Key → ℕ) (s b c t : Space
       counts : (p : ℕ) → count_at p ((header_range place ∷ []) ++ behind_of bytes w) ≤ count_at p ((chunks ++ block_ranges copies) ++ (m.fixed ++ m.behind))
       counts p =
           all_in (count_at p ((header_range place ∷ []) ++ behind_of bytes w)) (count_at p ((chunks ++ block_ranges copies) ++ (m.fixed ++ m.behind))) (count_at p (header_range place ∷ [])) (count_at p (behind_of bytes w)) (count_at p chunks)
-          (count_at p (block_ranges copies)) (count_at p m.fixed) (count_at p m.behind) (count_at p (fresh ms)) (count_at p (behind_of bytes v)) (count_append p (header_range place ∷ []) (behind_of bytes w))
-          (count_append p (chunks ++ block_ranges copies) (m.fixed ++ m.behind) ∙ ap (λ n. n + count_at p (m.fixed ++ m.behind)) (count_append p chunks (block_ranges copies)) ∙ ap (λ n. count_at p chunks + count_at p (block_ranges copies) + n) (count_append p m.fixed m.behind))
-          (subst (λ n. count_at p (behind_of bytes w) ≤ n) (count_append p (fresh ms) (behind_of bytes v)) (behind_light.counts p)) (subst (λ n. count_at p (behind_of bytes v) ≤ n) (count_append p chunks m.behind) (x.behind.counts p)) (ap (count_at p) x.stay) (ap (count_at p) (sym ranges_are))
+          (count_at p (block_ranges copies)) (count_at p m.fixed) (count_at p m.behind) (count_at p (fresh ms)) (count_at p (behind_of bytes v)) (count_joined p (header_range place ∷ []) (behind_of bytes w))
+          (count_joined p (chunks ++ block_ranges copies) (m.fixed ++ m.behind) ∙ ap (λ n. n + count_at p (m.fixed ++ m.behind)) (count_joined p chunks (block_ranges copies)) ∙ ap (λ n. count_at p chunks + count_at p (block_ranges copies) + n) (count_joined p m.fixed m.behind))
+          (subst (λ n. count_at p (behind_of bytes w) ≤ n) (count_joined p (fresh ms) (behind_of bytes v)) (behind_light.counts p)) (subst (λ n. count_at p (behind_of bytes v) ≤ n) (count_joined p chunks m.behind) (x.behind.counts p)) (ap (count_at p) x.stay) (ap (count_at p) (sym ranges_are))
         where
           all_in : (whole total fw bw c r fm bm fr bv : ℕ) → whole ≡ fw + bw → total ≡ c + r + (fm + bm) → bw ≤ fr + bv → bv ≤ c + bm → fm ≡ fw → fr ≡ r → whole ≤ total
           all_in whole total fw bw c r fm bm fr bv h1 h2 h3 h4 h5 h6 = omega (arith, h1, h2, h3, h4, h5, h6)

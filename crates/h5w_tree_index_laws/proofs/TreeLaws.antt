@@ -13,6 +13,7 @@ use Rattle.h5w_chunks.specs.declared.grid.ChunkPlace.{ChunkPlace}
 use Rattle.h5w_flush_laws.specs.Spaces.{Taken}
 use Rattle.h5w_flush_laws.specs.Parts.{block_ranges}
 use Rattle.h5w_flush_laws.specs.Rows.{new_chunks}
+use Rattle.h5w_flush_laws.specs.Chunks.{AreChunks, chunks_for}
 use Rattle.h5w_flush_laws.proofs.SpaceLemmas.{taken_laws}
 use Rattle.h5w_flush_laws.proofs.NewChunkLemmas.{or_none}
 use Rattle.h5w_flush_laws.proofs.RowsLaws.{rows_flush}
@@ -20,7 +21,7 @@ use Rattle.h5w_bt_index.specs.Index.{Index, IsIndex}
 use Rattle.h5w_bt_nodes.specs.Blocks.{changes, stood, written}
 use Rattle.h5w_bt_index.specs.Plans.{news, olds}
 use Rattle.h5w_tree_index_laws.specs.TreeImages.{node_range}
-use Rattle.h5w_tree_index_laws.specs.TreeFlushes.{AreChunks, TreeIsFlush, chunks_for, fresh, tree_parts}
+use Rattle.h5w_tree_index_laws.specs.TreeFlushes.{TreeIsFlush, fresh, tree_parts}
 use Rattle.h5w_tree_index_laws.proofs.TreeFlushLemmas.{same_news, take_them, tree_flushed}
 use Rattle.h5w_tree_index_laws.proofs.TreePlaceLemmas.{tree_places}
 use Rattle.h5w_tree_index_laws.proofs.TreePlanLemmas.{takes}

@@ -12,11 +12,11 @@ use Rattle.h5w_model.specs.Findings.{Used}
 use Rattle.h5w_model.specs.declared.cell.Key.{Key}
 use Rattle.h5w_visits.specs.Ranges.{chunk_at}
 use Rattle.h5w_bt.specs.declared.records.Record.{Record}
+use Rattle.h5w_bt.proofs.KeyLemmas.{below-not_back, equal-is, equal-self, below-not_self, above-not_equal, above-from}
 use Rattle.h5w_bt_nodes.specs.Nodes.{address_in}
 use Rattle.h5w_bt_nodes.specs.Puts.{put_record}
 use Rattle.h5w_bt_index.specs.Sound.{IsRising}
 use Rattle.h5w_bt_index.specs.Index.{Index, address_of, inserted, records}
-use Rattle.h5w_bt_index.proofs.Keys.{above-from, above-not_equal, below-not_back, below-not_self, equal-is, equal-self}
 use Rattle.h5w_bt_index.proofs.Laws.{in_leaf-is, inserted-records}
 use Rattle.h5w_bt_nodes.proofs.Records.{here, in-here, in-past, in-under, past, put-here, put-past, put-under, side, under}
 use Rattle.h5w_bt_index.proofs.Rising.{AreAbove, above_all}

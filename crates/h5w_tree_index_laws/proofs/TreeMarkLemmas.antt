@@ -10,6 +10,7 @@ use Rattle.h5w_model.specs.Tables.{key_equal}
 use Rattle.h5w_model.specs.Trees.{capacity_of}
 use Rattle.h5w_model.specs.declared.cell.Key.{Key}
 use Rattle.h5w_bt.specs.declared.records.Record.{Record}
+use Rattle.h5w_bt.proofs.KeyLemmas.{equal-is, below-not_equal, above-not_equal, above-from}
 use Rattle.h5w_bt_nodes.specs.Nodes.{Tree, address_in, all_records, found, joined, rank}
 use Rattle.h5w_bt_nodes.specs.Puts.{changed_at, put}
 use Rattle.h5w_bt_nodes.specs.Shapes.{IsShape}
@@ -17,7 +18,6 @@ use Rattle.h5w_bt_index.specs.Sound.{IsRising, IsSound}
 use Rattle.h5w_bt_index.specs.Marks.{IsCleanPart, Part, Some_of}
 use Rattle.h5w_bt_index.specs.Index.{Index, IsClean, IsIndex, inserted, records}
 use Rattle.h5w_bt_nodes.specs.Blocks.{changes}
-use Rattle.h5w_bt_index.proofs.Keys.{above-from, above-not_equal, below-not_equal, equal-is}
 use Rattle.h5w_bt_index.proofs.Laws.{index_shaped, inserted-clean, put-there, same-index}
 use Rattle.h5w_bt_nodes.proofs.Over.{OnTheWay, on_the_way}
 use Rattle.h5w_bt_nodes.proofs.Places.{none_is_not, some_same}

@@ -16,12 +16,13 @@ use Rattle.h5w_steps.proofs.MomentLemmas.{in_behind}
 use Rattle.h5w_steps.proofs.PartLemmas.{apart_sym, at_most_one, counted_one, disjoint_right, disjoint_some, none_at}
 use Rattle.h5w_flush_laws.specs.Spaces.{IsLeftBy, Taken, extent_of}
 use Rattle.h5w_flush_laws.specs.Knowledge.{Knows}
+use Rattle.h5w_flush_laws.specs.Chunks.{AreChunks}
 use Rattle.h5w_flush_laws.proofs.SpaceLemmas.{disjoint_joined, meet_nowhere, move_laws, taken_laws}
 use Rattle.h5w_bt_index.specs.Index.{Index, IsIndex}
 use Rattle.h5w_bt_nodes.specs.Blocks.{changes, stood}
 use Rattle.h5w_bt_index.specs.Plans.{AreNodeMoves, news, olds, planned}
 use Rattle.h5w_tree_index_laws.specs.TreeImages.{behind_of, node_range, own_range}
-use Rattle.h5w_tree_index_laws.specs.TreeFlushes.{AreChunks, IsTreePart, TreePlaces, fresh}
+use Rattle.h5w_tree_index_laws.specs.TreeFlushes.{IsTreePart, TreePlaces, fresh}
 use Rattle.h5w_tree_index_laws.proofs.TreeFlushLemmas.{fresh_some, same_news, take_them}
 use Rattle.h5w_tree_index_laws.proofs.TreeHeaderLemmas.{address_other}
 use Rattle.h5w_tree_index_laws.proofs.TreePlanLemmas.{moves_taken}

@@ -2,7 +2,7 @@
 use Rattle.std.proofs.Common.{◌≡◌, ◌⊎◌, ℕ, zero, suc, ◌+◌, ◌<◌, ◌≤◌, Bool, true, false, cond, ◌&&◌, eqb, List, [], ◌∷◌, ◌++◌, length, map, flat_map, take, drop, refl, sym, ap, ◌∙◌, inl, inr, arith, sum_by, append-nil, length-append, length-drop, eq-eqb}
 use Rattle.std.specs.Prelude.{slice_index_or}
 use Rattle.std.specs.List.{All}
-use Rattle.std.proofs.lemmas.Bool.{cases_Bool, cond-true, cond-false, eqb-true}
+use Rattle.std.proofs.lemmas.Bool.{cases_Bool, cond-true, cond-false, eqb-true, and_parts}
 use Rattle.std.proofs.lemmas.List.{length-map, map-append}
 use Rattle.std.proofs.lemmas.List.Elements.{All-head, All-tail}
 use Rattle.std.proofs.lemmas.List.Sums.{sum_by-cons, sum_by-append, sum_by_push}
@@ -43,15 +43,11 @@ bool_itself false = refl
 is_same : Used → Used → Bool
 is_same u v = (eqb u.place v.place) && ((eqb u.len v.len) && same_bool u.chunk v.chunk)
 
-both_true : (s t : Bool) → (s && t) ≡ true → (s ≡ true) × (t ≡ true)
-both_true true t h = (refl, h)
-both_true false t h = absurd cc
-
 used_same : (u v : Used) → is_same u v ≡ true → v ≡ u
 unfolding is_same
 used_same u v h =
-    let a = both_true (eqb u.place v.place) ((eqb u.len v.len) && same_bool u.chunk v.chunk) h in
-    let b = both_true (eqb u.len v.len) (same_bool u.chunk v.chunk) a.1 in
+    let a = and_parts (eqb u.place v.place) ((eqb u.len v.len) && same_bool u.chunk v.chunk) h in
+    let b = and_parts (eqb u.len v.len) (same_bool u.chunk v.chunk) a.1 in
     let e = eqb-true u.place v.place a.0 in
     let f = eqb-true u.len v.len b.0 in
     let g = bool_same u.chunk v.chunk b.1 in

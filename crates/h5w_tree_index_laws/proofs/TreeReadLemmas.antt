@@ -17,6 +17,7 @@ use Rattle.h5w_laws.proofs.ResultLemmas.{then_from, choice_from}
 use Rattle.h5w_laws.proofs.SlotLemmas.{refused_from}
 use Rattle.h5w_bt.specs.declared.records.Record.{Record}
 use Rattle.h5w_bt.specs.Parts.{record_of}
+use Rattle.h5w_bt.proofs.KeyLemmas.{equal-is}
 use Rattle.h5w_bt_nodes.specs.Nodes.{Tree, all_records, records_of, joined, address_in}
 use Rattle.h5w_bt_index.specs.Sound.{IsRising, IsSound}
 use Rattle.h5w_bt_nodes.specs.Blocks.{node_of, place_of, pointer_of}
@@ -24,7 +25,6 @@ use Rattle.h5w_tree_index_laws.specs.TreeImages.{AllStand}
 use Rattle.h5w_bt_nodes.proofs.Records.{under, here, past, side, in-under, in-here}
 use Rattle.h5w_bt_index.proofs.Rising.{in-behind, in-before, below_all, rises-around, AreBelow}
 use Rattle.h5w_bt_nodes.proofs.Places.{All-each}
-use Rattle.h5w_bt_index.proofs.Keys.{equal-is}
 use Rattle.h5w_bt_index.proofs.Joined.{joined-each_rises}
 use Rattle.h5w_bt_index.proofs.Laws.{in_leaf-is}
 

@@ -21,6 +21,7 @@ use Rattle.h5w_steps.proofs.MomentLemmas.{in_behind, in_fixed, parts_of}
 use Rattle.h5w_flush_laws.specs.Spaces.{AllLive}
 use Rattle.h5w_flush_laws.specs.Knowledge.{HeldMissed, Knows}
 use Rattle.h5w_flush_laws.specs.Parts.{IsFlush, Parts, block_writes, flushed_to, pieces_of}
+use Rattle.h5w_flush_laws.specs.Chunks.{AreChunks}
 use Rattle.h5w_flush_laws.proofs.FlushLemmas.{after_apart, supers_miss}
 use Rattle.h5w_flush_laws.proofs.FlushLaws.{final_image, index_missed_by_header, live_after}
 use Rattle.h5w_bt_nodes.specs.Nodes.{Tree}
@@ -30,7 +31,7 @@ use Rattle.h5w_bt_nodes.specs.Blocks.{place_of}
 use Rattle.h5w_bt_index.specs.Plans.{header_of, header_writes, news, planned}
 use Rattle.h5w_bt_index.proofs.Placed.{placed_clean}
 use Rattle.h5w_tree_index_laws.specs.TreeImages.{AllStand, StandsNode, StandsTree, behind_of, node_range}
-use Rattle.h5w_tree_index_laws.specs.TreeFlushes.{AreChunks, HeaderNames, IsTreePart, TreeBegins, TreeRestsThen, TreeStands, header_range, tree_parts}
+use Rattle.h5w_tree_index_laws.specs.TreeFlushes.{HeaderNames, IsTreePart, TreeBegins, TreeRestsThen, TreeStands, header_range, tree_parts}
 use Rattle.h5w_tree_index_laws.proofs.TreeFlushLemmas.{all_stand, after, copies_stand, header_stays, root_low, same_tree}
 use Rattle.h5w_tree_index_laws.proofs.TreeHeaderLemmas.{header_gives, header_long, header_written, names_again, part_range, tree_left}
 

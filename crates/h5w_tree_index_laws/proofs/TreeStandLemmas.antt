@@ -1,5 +1,5 @@
 -- A tree that did not change since it was written, on an image.
-use Rattle.std.proofs.Common.{◌≡◌, ◌⊎◌, ℕ, zero, suc, ◌+◌, ◌<◌, ◌^◌, Bool, true, false, eqb, List, [], ◌∷◌, length, Result, Ok, refl, sym, ap, subst, ◌∙◌, inl, inr, arith}
+use Rattle.std.proofs.Common.{◌≡◌, ◌⊎◌, ℕ, zero, suc, ◌+◌, ◌<◌, ◌^◌, Bool, true, false, eqb, List, [], ◌∷◌, length, refl, sym, ap, subst, ◌∙◌, inl, inr, arith}
 use Rattle.std.specs.List.{All}
 use Rattle.std.proofs.lemmas.Bool.{cond-false, eqb-true}
 use Rattle.std.proofs.lemmas.List.Elements.{All-cons, All-head, All-nil, All-tail}
@@ -7,10 +7,11 @@ use Rattle.h5w_model.specs.Numbers.{undefined}
 use Rattle.h5w_model.specs.Programs.{ret, eval}
 use Rattle.h5w_model.specs.Trees.{BthdFields, node_size}
 use Rattle.h5w_model.specs.Tables.{in_tree, address_behind}
-use Rattle.h5w_model.specs.Findings.{Finding, Used, Under, node_visit}
+use Rattle.h5w_model.specs.Findings.{Under, node_visit}
 use Rattle.h5w_laws.proofs.ResultLemmas.{and_then_from}
 use Rattle.h5w_visits.specs.Indexes.{behind_visit}
 use Rattle.h5w_bt.specs.declared.records.Record.{Record}
+use Rattle.h5w_laws.proofs.EndLemmas.{ranges_are}
 use Rattle.h5w_bt_nodes.specs.Nodes.{Tree, records_of}
 use Rattle.h5w_bt_index.specs.Marks.{IsCleanPart, IsMarked, Part, Some_of, clean_of}
 use Rattle.h5w_bt_index.specs.Index.{Index, IsClean, IsIndex, inserted, no_tree}
@@ -55,9 +56,6 @@ nodes_stand img (suc d) t m e all = (
 pub none_read : (img : List ℕ) → IsRead no_tree img
 none_read img = record { visited = λ total end bytes h. refl; found = λ total key. refl }
 
-abbrev ranges_ok : List Used → Result (List Used) Finding
-ranges_ok us = Ok us
-
 pub node_place : (img : List ℕ) (d : ℕ) (t : Tree d) → AllStand img d t → place_of d t + node_size < 2 ^ 64
 node_place img zero t s = s.ends
 node_place img (suc d) t s = (s.0).ends
@@ -77,7 +75,7 @@ good_read v img i s =
     let blocks : (total : ℕ) → blocks_in_place total v ≡ in_tree (header total) = λ total. cond-false (eqb place undefined) _ _ (placed_differs place (node_place img v.depth v.root s)) in
     record {
       visited = λ total end bytes h. ap (λ b. eval img (behind_visit end bytes b)) (blocks total)
-          ∙ and_then_from img (node_visit end bytes v.depth place (length (records_of v.depth v.root))) (λ (u : Under). ret (ranges_ok u.ranges)) (node_under bytes v.depth v.root) (behind_of bytes v)
+          ∙ and_then_from img (node_visit end bytes v.depth place (length (records_of v.depth v.root))) (λ (u : Under). ret (ranges_are u.ranges)) (node_under bytes v.depth v.root) (behind_of bytes v)
           (visit_finds img end bytes v.depth v.root g h) refl;
       found = λ total key. ap (λ b. eval img (address_behind b key)) (blocks total) ∙ lookup_gives img v.depth v.root key g;
     }

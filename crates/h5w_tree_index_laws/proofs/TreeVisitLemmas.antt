@@ -17,6 +17,7 @@ use Rattle.h5w_visits.proofs.RangeLemmas.{ends_left, ends_right}
 use Rattle.h5w_visits.proofs.TreeVisits.{finds}
 use Rattle.h5w_bt.specs.declared.records.Record.{Record}
 use Rattle.h5w_bt.specs.Parts.{record_of}
+use Rattle.h5w_laws.proofs.EndLemmas.{ranges_are}
 use Rattle.h5w_bt_nodes.specs.Nodes.{Tree, all_records, records_of, joined}
 use Rattle.h5w_bt_index.specs.Sound.{IsRising}
 use Rattle.h5w_bt_nodes.specs.Blocks.{node_of, place_of, pointer_of}
@@ -27,9 +28,6 @@ use Rattle.h5w_bt_index.proofs.Grown.{total_is}
 use Rattle.h5w_tree_index_laws.proofs.TreeReadLemmas.{Good, good_children}
 
 -- ---- Chunks
-
-abbrev ranges_ok : List Used → Result (List Used) Finding
-ranges_ok us = Ok us
 
 pub chunk_list : (end bytes : ℕ) (rs : List Record) → AllEndBy end (chunks_of bytes rs) → chunk_ranges end bytes (map (λ (r : RecordFields). r.address) (map record_of rs)) ≡ Ok (chunks_of bytes rs)
 chunk_list end bytes [] h = refl
@@ -43,7 +41,7 @@ chunk_list end bytes (r ∷ rs) h = go (eqb r.address undefined) (λ e. chunk_li
     go true later e = later e
     go false later e =
         cond-false (nat_lt end (r.address + bytes)) _ _ (le-ltb end (r.address + bytes) (e (chunk_at r.address bytes) (inl refl)))
-        ∙ then_from rest (λ us. ranges_ok (chunk_at r.address bytes ∷ us)) (chunks_of bytes rs) (chunk_at r.address bytes ∷ chunks_of bytes rs) (later (ends_right end (chunk_at r.address bytes ∷ []) (chunks_of bytes rs) e)) refl
+        ∙ then_from rest (λ us. ranges_are (chunk_at r.address bytes ∷ us)) (chunks_of bytes rs) (chunk_at r.address bytes ∷ chunks_of bytes rs) (later (ends_right end (chunk_at r.address bytes ∷ []) (chunks_of bytes rs) e)) refl
 
 -- ---- Keys
 
@@ -60,10 +58,6 @@ keys_rise (r ∷ []) h = refl
 keys_rise (r ∷ s ∷ rs) h = ap (λ b. b && are_rising (keys_in (s ∷ rs))) (All-head (Over r.key) s rs h.0) ∙ keys_rise (s ∷ rs) h.1
 
 -- ---- A node's answer
-
--- what is under a node
-abbrev pub under_of : ℕ → (d : ℕ) → Tree d → List Used → Under
-under_of bytes d t us = record { ranges = us; keys = keys_in (all_records d t) }
 
 abbrev pub node_under : ℕ → (d : ℕ) → Tree d → Under
 node_under bytes d t = record { ranges = ranges_under bytes d t; keys = keys_in (all_records d t) }
@@ -105,7 +99,7 @@ right_total n rs e = eq-eqb n (length (keys_in rs)) (e ∙ sym (length-map rs (�
 pub one_record : (end bytes : ℕ) (r : Record) → AllEndBy end (chunk_of bytes r) → record_under end bytes (record_of r) ≡ Ok (record { ranges = chunk_of bytes r; keys = r.key ∷ [] })
 one_record end bytes r h =
     then_from (chunk_ranges end bytes (r.address ∷ [])) (λ us. under_ok (record { ranges = us; keys = r.key ∷ [] })) (chunk_of bytes r) (record { ranges = chunk_of bytes r; keys = r.key ∷ [] })
-    (chunk_list end bytes (r ∷ []) (subst (AllEndBy end) (sym (append-nil (chunk_of bytes r))) h) ∙ ap ranges_ok (append-nil (chunk_of bytes r))) refl
+    (chunk_list end bytes (r ∷ []) (subst (AllEndBy end) (sym (append-nil (chunk_of bytes r))) h) ∙ ap ranges_are (append-nil (chunk_of bytes r))) refl
 
 pub children_tell : {C : Type 0} (img : List ℕ) (end bytes : ℕ) (visit : ChildFields → Prog (Result Under Finding)) (ptr : C → ChildFields) (us_of : C → List Used) (rs_of : C → List Record) (rs : List Record) (cs : List C)
     → length cs ≡ length rs + 1 → AllEndBy end (around bytes rs (map us_of cs)) → All (EachTold img end visit ptr us_of rs_of) cs

@@ -20,7 +20,8 @@ use Rattle.h5w_steps.specs.Moments.{Moment}
 use Rattle.h5w_flush_laws.specs.Spaces.{AllLive, LetGo, Taken, extent_of}
 use Rattle.h5w_flush_laws.specs.Knowledge.{HeldMissed, IsAsked, Knows}
 use Rattle.h5w_flush_laws.specs.Parts.{Parts, AllUnseen, AreEnded, IndexFlushed, IsFlush, block_ranges, block_writes, flushed_to, pieces_of}
-use Rattle.h5w_flush_laws.specs.Rows.{ArePlaced, new_chunks}
+use Rattle.h5w_flush_laws.specs.Rows.{ArePlaced}
+use Rattle.h5w_flush_laws.specs.Chunks.{AreChunks, chunks_for}
 use Rattle.h5w_bt_index.specs.Marks.{clean_of}
 use Rattle.h5w_bt_index.specs.Index.{Index, IsIndex, address_of, no_tree}
 use Rattle.h5w_bt_nodes.specs.Blocks.{written}
@@ -63,10 +64,6 @@ tree_parts bytes place w rows more writes chunks copies supers last fixed = reco
 abbrev pub fresh : List Move → List Used
 fresh ms = map (λ (m : Move). node_range m.new) ms
 
--- all of these are chunks
-abbrev pub AreChunks : List Used → Type 0
-AreChunks us = (u : Used) → Among u us → u.chunk ≡ true
-
 -- What a session shows of its tree: as it is when the chunks of the new rows have their addresses, and the plan of that.
 pub record IsTreePart (img : List ℕ) (m : Moment) (place : ℕ) (v : Index) (s : Space) (ms : List Move) (w : Index) (t : Space) (chunks : List Used) (copies : List (ℕ × List ℕ)) (fixed : List Write) : Type 0 where
   pub kind : m.dataset.layout.index ≡ a_tree
@@ -107,10 +104,6 @@ pub record ArePlaces (m : Moment) (b : Space) (ms : List Move) (w : Index) (t : 
 abbrev pub TreePlaces : Type 0
 TreePlaces = (img name : List ℕ) (m : Moment) (old : Key → ℕ) (s b t : Space) (place : ℕ) (v w : Index) (ms : List Move) (chunks : List Used) (copies : List (ℕ × List ℕ)) (fixed : List Write)
     → Knows img name m old s → Taken s chunks b → AreChunks chunks → IsTreePart img m place v b ms w t chunks copies fixed → ArePlaces m b ms w t
-
--- The new chunks of a flush whose index is a tree.
-abbrev pub chunks_for : Moment → (Key → ℕ) → List ChunkPlace → List Used
-chunks_for m old places = new_chunks m.dataset old m.dataset.shape.rows 0 places
 
 -- All of a flush whose index is a tree that is named already: from what a session knows, the places of its new chunks, what the writes of
 -- the rows do, and the tree's plan.

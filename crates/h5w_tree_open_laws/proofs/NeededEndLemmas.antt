@@ -7,6 +7,7 @@ use Rattle.h5w_model.specs.Trees.{btin_len, btlf_len, capacity_of, node_size}
 use Rattle.h5w_model.specs.declared.cell.Key.{Key}
 use Rattle.h5w_space.specs.Space.{extent}
 use Rattle.h5w_space.specs.declared.Extent.{Extent}
+use Rattle.h5w_space.specs.Ranges.{range_at}
 use Rattle.h5w_bt.specs.declared.records.Record.{Record}
 use Rattle.h5w_bt_nodes.specs.Nodes.{Tree}
 use Rattle.h5w_bt_index.specs.Sound.{IsSound}
@@ -15,7 +16,7 @@ use Rattle.h5w_bt_open.specs.declared.span.Span.{Span}
 use Rattle.h5w_bt_open.specs.Spans.{high_of, low_behind, low_of, rest, span_here}
 use Rattle.h5w_bt_open.specs.Opened.{from_key}
 use Rattle.h5w_bt_open.specs.Kept.{node_ranges, own_extent, ranges_of}
-use Rattle.h5w_bt_open.specs.Needed.{needed_ranges, node_extent, of_each, ranges_from}
+use Rattle.h5w_bt_open.specs.Needed.{needed_ranges, of_each, ranges_from}
 use Rattle.h5w_tree_open_laws.proofs.OpenedStandLemmas.{AllEnd, both_parts}
 
 -- ---- Lengths
@@ -27,7 +28,7 @@ inner_short (suc zero) n deep few = omega (arith, few)
 inner_short (suc (suc zero)) n deep few = omega (arith, few)
 inner_short (suc (suc (suc d))) n deep few = absurd (omega (arith, deep))
 
-shorter_ends : (end place len : ℕ) → len ≤ node_size → AllEnd end (own_extent place) → AllEnd end (node_extent place len)
+shorter_ends : (end place len : ℕ) → len ≤ node_size → AllEnd end (own_extent place) → AllEnd end (range_at place len)
 shorter_ends end place len short = go (place == undefined)
   where
     go : (none : Bool) → AllEnd end (cond none [] (extent place node_size ∷ [])) → AllEnd end (cond none [] (extent place len ∷ []))
@@ -53,7 +54,7 @@ needed_under end zero (Some s) t deep sound h = shorter_ends end t.place (btlf_l
 needed_under end (suc d) None t deep sound h = All-nil (λ (r : Extent). r.at + r.size ≤ end)
 needed_under end (suc d) (Some s) t deep sound h =
     let p = both_parts (λ (r : Extent). r.at + r.size ≤ end) (own_extent t.place) (flat_map (node_ranges d) t.children) h in
-    All-append (λ (r : Extent). r.at + r.size ≤ end) (node_extent t.place (btin_len (length t.records) (suc d))) (of_each (needed_ranges d) (Some s.from) s.to t.records t.children)
+    All-append (λ (r : Extent). r.at + r.size ≤ end) (range_at t.place (btin_len (length t.records) (suc d))) (of_each (needed_ranges d) (Some s.from) s.to t.records t.children)
     (shorter_ends end t.place (btin_len (length t.records) (suc d)) (inner_short d (length t.records) deep sound.few) p.0)
     (each_needed end d (λ q u is all. needed_under end d q u (omega (arith, deep)) is all) (Some s.from) s.to t.records t.children sound.each p.1)
 

@@ -5,9 +5,9 @@ use Rattle.std.proofs.lemmas.List.Elements.{All-head}
 use Rattle.h5w_model.specs.Trees.{ChildFields}
 use Rattle.h5w_model.specs.Tables.{key_below}
 use Rattle.h5w_bt.specs.declared.records.Record.{Record}
+use Rattle.h5w_bt.proofs.KeyLemmas.{below-not_self}
 use Rattle.h5w_bt_nodes.specs.Nodes.{Tree, all_records}
 use Rattle.h5w_bt_index.specs.Sound.{IsRising}
-use Rattle.h5w_bt_index.proofs.Keys.{below-not_self}
 use Rattle.h5w_bt_open.specs.Opened.{no_chunk, no_key, nowhere_below, passed_of}
 
 -- two records of one key are under it, and do not rise

@@ -1,5 +1,5 @@
 -- A first flush of a tree by what its calls give.
-use Rattle.std.proofs.Common.{◌≡◌, ℕ, ◌<◌, false, List, [], ◌∷◌, ◌++◌, length, refl, sym, ap, ◌∙◌, subst, inl, inr, arith, append-nil, append_assoc}
+use Rattle.std.proofs.Common.{◌≡◌, ℕ, ◌<◌, false, List, [], ◌∷◌, ◌++◌, length, refl, sym, ap, ◌∙◌, subst, inl, inr, arith, append-nil}
 use Rattle.std.specs.Prelude.{Some, ℤ}
 use Rattle.std.specs.List.{slice_get}
 use Rattle.std.proofs.lemmas.Bool.{cases_Bool, cond-false}
@@ -19,14 +19,15 @@ use Rattle.h5w_steps.specs.Moments.{Moment}
 use Rattle.h5w_array_laws.specs.Among.{AreAmong}
 use Rattle.h5w_array_laws.proofs.FixedLemmas.{one_piece}
 use Rattle.h5w_flush_laws.specs.Parts.{block_writes, pieces_of}
+use Rattle.h5w_flush_laws.specs.Chunks.{chunks_for}
 use Rattle.h5w_starting_laws.specs.Starting.{no_chunk}
+use Rattle.h5w_starting_laws.proofs.StartPieceLemmas.{regrouped, last_in}
 use Rattle.h5w_bt_index.specs.Marks.{Part, clean_of}
 use Rattle.h5w_bt_index.specs.Index.{Index, address_of, no_tree}
 use Rattle.h5w_bt_nodes.specs.Blocks.{written}
 use Rattle.h5w_bt_index.specs.Plans.{IsTreePlan, header_of, header_writes, news}
 use Rattle.h5w_bt_index.proofs.Shares.{filled_kept}
 use Rattle.h5w_tree_index_laws.specs.TreeImages.{behind_of, blank}
-use Rattle.h5w_tree_index_laws.specs.TreeFlushes.{chunks_for}
 use Rattle.h5w_tree_index_laws.proofs.TreeHeaderLemmas.{header_long}
 use Rattle.h5w_tree_index_laws.proofs.TreeStandLemmas.{own_part, part_of}
 use Rattle.h5w_index.specs.Views.{IsSoundTree}
@@ -34,14 +35,14 @@ use Rattle.h5w_tree_starting_laws.specs.TreeStarting.{IsUnwritten, parts_for}
 use Rattle.h5w_tree_starting_laws.specs.TreeStartCalls.{AreTreeStartCalls, CallsStartTree, TreeStartCalls}
 
 -- a tree that is the blank leaf has no chunk
-index_of_part : Part → Index
+unfoldable pub index_of_part : Part → Index
 index_of_part p = record { depth = p.depth; root = p.tree }
 
 blank_finds : (v : Index) (key : Key) → part_of v.depth v.root ≡ blank → address_of v key ≡ undefined
 unfolding index_of_part
 blank_finds v key e = ap (λ (p : Part). address_of (index_of_part p) key) e
 
-first_of : (places : List ChunkPlace) → 0 < length places → (p : ChunkPlace) × (slice_get places 0 ≡ Some p)
+pub first_of : (places : List ChunkPlace) → 0 < length places → (p : ChunkPlace) × (slice_get places 0 ≡ Some p)
 first_of [] some = absurd (omega (arith, some))
 first_of (p ∷ ps) some = (p, refl)
 
@@ -54,14 +55,6 @@ header_block : (p : ℕ) (w : Index) → block_writes ((p, bthd_bytes (header_of
 header_block p w =
     let long = header_long (header_of w) in
     append-nil (pieces p (bthd_bytes (header_of w))) ∙ one_piece p (bthd_bytes (header_of w)) (omega (arith, long)) (omega (arith, long))
-
-regrouped : (a b c d : List Write) → (a ++ ((b ++ c) ++ (d ++ []))) ≡ a ++ (b ++ (c ++ d))
-regrouped a b c d = ap (λ (x : List Write). a ++ ((b ++ c) ++ x)) (append-nil d) ∙ ap (λ (x : List Write). a ++ x) (append_assoc b c d)
-
-last_in : (a b c d e : List Write) → (a ++ (b ++ (c ++ d))) ++ e ≡ a ++ (b ++ (c ++ (d ++ e)))
-last_in a b c d e =
-    append_assoc a (b ++ (c ++ d)) e
-    ∙ ap (λ (x : List Write). a ++ x) (append_assoc b (c ++ d) e ∙ ap (λ (x : List Write). b ++ x) (append_assoc c d e))
 
 module _ (img : List ℕ) (m : Moment) (base b t : Space) (place : ℕ) (v w : Index) (ms : List Move) (rows : ℕ) (more : List ℤ) (writes : List Write) (places : List ChunkPlace) (added : List Key) (cs fixed supers : List Write)
     (c : AreTreeStartCalls img m base b place v ms w t rows more writes places added cs fixed supers) where

@@ -17,13 +17,13 @@ use Rattle.h5w_cache.specs.declared.moves.Move.{Move}
 use Rattle.h5w_chunks.specs.declared.grid.ChunkPlace.{ChunkPlace}
 use Rattle.h5w_steps.specs.Moments.{Moment}
 use Rattle.h5w_steps.specs.Counts.{count_at}
-use Rattle.h5w_steps.proofs.PartLemmas.{disjoint_right}
+use Rattle.h5w_steps.proofs.PartLemmas.{disjoint_right, count_joined}
 use Rattle.h5w_flush_laws.specs.Knowledge.{HeldMissed}
 use Rattle.h5w_flush_laws.specs.Spaces.{LetGo, Taken}
 use Rattle.h5w_flush_laws.specs.Parts.{IsFlush, Parts, block_ranges, block_writes, committed, fresh_of}
 use Rattle.h5w_flush_laws.specs.Rows.{RowsPart}
+use Rattle.h5w_flush_laws.specs.Chunks.{chunks_for}
 use Rattle.h5w_flush_laws.proofs.KnownLaws.{begin_knows}
-use Rattle.h5w_flush_laws.proofs.PartLemmas.{count_append}
 use Rattle.h5w_flush_laws.proofs.SpaceLemmas.{taken_laws}
 use Rattle.h5w_flush_laws.proofs.RowsLaws.{rows_flush}
 use Rattle.h5w_starting_laws.specs.Starting.{IsNowhere, no_chunk}
@@ -35,7 +35,7 @@ use Rattle.h5w_bt_nodes.specs.Blocks.{changes, place_of, placed}
 use Rattle.h5w_bt_index.specs.Plans.{header_of, news, planned}
 use Rattle.h5w_bt_index.proofs.Placed.{planned_index}
 use Rattle.h5w_tree_index_laws.specs.TreeImages.{AllStand, AreAmong, IsRead, behind_of, blocks_in_place, node_range}
-use Rattle.h5w_tree_index_laws.specs.TreeFlushes.{HeaderNames, chunks_for, fresh, header_range}
+use Rattle.h5w_tree_index_laws.specs.TreeFlushes.{HeaderNames, fresh, header_range}
 use Rattle.h5w_tree_index_laws.proofs.TreeFlushLemmas.{moves_end, same_news, take_them}
 use Rattle.h5w_tree_index_laws.proofs.TreeHeaderLemmas.{header_gives, header_long, header_reads, header_says}
 use Rattle.h5w_tree_index_laws.proofs.TreeLaws.{copies_are}
@@ -116,7 +116,7 @@ module _ (img name : List ℕ) (m : Moment) (base b t : Space) (place : ℕ) (v 
   fresh_is = ap (λ (us : List Used). chunks ++ us) blocks_are
 
   counted : (p : ℕ) → count_at p (fresh_of f) ≡ count_at p chunks + (count_at p (fresh ms) + count_at p (head ∷ []))
-  counted p = ap (count_at p) fresh_is ∙ omega (arith, count_append p chunks (fresh ms ++ head ∷ []), count_append p (fresh ms) (head ∷ []))
+  counted p = ap (count_at p) fresh_is ∙ omega (arith, count_joined p chunks (fresh ms ++ head ∷ []), count_joined p (fresh ms) (head ∷ []))
 
   in_fresh : (l : Used) → Among l chunks ⊎ (Among l (fresh ms) ⊎ Among l (head ∷ [])) → Among l (fresh_of f)
   in_fresh l a = subst (λ (us : List Used). Among l us) (sym fresh_is) (go a)
@@ -140,7 +140,7 @@ module _ (img name : List ℕ) (m : Moment) (base b t : Space) (place : ℕ) (v 
       (record { among = λ l a. back l (of_fresh l a); counts = λ p. let c = all p in omega (arith, c, counted p) })
     where
       all : (p : ℕ) → count_at p ((head ∷ chunks) ++ fresh ms) ≡ count_at p chunks + (count_at p (fresh ms) + count_at p (head ∷ []))
-      all p = omega (arith, count_append p (head ∷ chunks) (fresh ms), count_append p (head ∷ []) chunks)
+      all p = omega (arith, count_joined p (head ∷ chunks) (fresh ms), count_joined p (head ∷ []) chunks)
 
       first : (l : Used) → (head ≡ l) ⊎ Among l chunks → Among l (fresh_of f)
       first l (inl e) = in_fresh l (inr (inr (inl e)))
@@ -270,8 +270,8 @@ module _ (img name : List ℕ) (m : Moment) (base b t : Space) (place : ℕ) (v 
       counts : (p : ℕ) → count_at p (head ∷ behind_of bytes w) ≤ count_at p (fresh_of f ++ (m.fixed ++ m.behind))
       counts p =
           all_in (count_at p (head ∷ behind_of bytes w)) (count_at p (fresh_of f ++ (m.fixed ++ m.behind))) (count_at p (fresh_of f)) (count_at p (m.fixed ++ m.behind)) (count_at p (head ∷ [])) (count_at p (behind_of bytes w)) (count_at p chunks)
-          (count_at p (fresh ms)) (count_at p (behind_of bytes v)) (count_append p (head ∷ []) (behind_of bytes w)) (count_append p (fresh_of f) (m.fixed ++ m.behind)) (counted p)
-          (subst (λ n. count_at p (behind_of bytes w) ≤ n) (count_append p (fresh ms) (behind_of bytes v)) (behind_light.counts p)) (x.behind.counts p)
+          (count_at p (fresh ms)) (count_at p (behind_of bytes v)) (count_joined p (head ∷ []) (behind_of bytes w)) (count_joined p (fresh_of f) (m.fixed ++ m.behind)) (counted p)
+          (subst (λ n. count_at p (behind_of bytes w) ≤ n) (count_joined p (fresh ms) (behind_of bytes v)) (behind_light.counts p)) (x.behind.counts p)
         where
           all_in : (whole total new old fw bw c fr bv : ℕ) → whole ≡ fw + bw → total ≡ new + old → new ≡ c + (fr + fw) → bw ≤ fr + bv → bv ≤ c → whole ≤ total
           all_in whole total new old fw bw c fr bv h1 h2 h3 h4 h5 = omega (arith, h1, h2, h3, h4, h5)

@@ -1,7 +1,7 @@
 -- A tree of which no node was ever written.
-use Rattle.std.proofs.Common.{◌≡◌, ℕ, zero, suc, ◌≤◌, Bool, true, false, eqb, List, [], ◌∷◌, ◌++◌, flat_map, length, refl, sym, ap, subst, ◌∙◌, inl, inr, arith, sum_by}
+use Rattle.std.proofs.Common.{◌≡◌, ℕ, zero, suc, ◌≤◌, false, eqb, List, [], ◌∷◌, ◌++◌, flat_map, length, refl, sym, ap, subst, ◌∙◌, inl, inr, arith, sum_by}
 use Rattle.std.specs.List.{All}
-use Rattle.std.proofs.lemmas.Bool.{cases_Bool, cond-false, eqb-true}
+use Rattle.std.proofs.lemmas.Bool.{cases_Bool, cond-false, eqb-true, both_ways}
 use Rattle.std.proofs.lemmas.List.Elements.{All-head, All-tail}
 use Rattle.std.proofs.lemmas.List.Sums.{sum_by-cons}
 use Rattle.h5w_model.specs.Numbers.{undefined}
@@ -89,13 +89,10 @@ part_some (suc d) least t p low some l (inl c) = subst (λ (q : Part). 1 ≤ cou
 part_some (suc d) least t p low some l (inr c) =
     some_below d p t.children (λ u k h. part_some d (two_fifths d) u p (omega (arith, low)) (share_some d (omega (arith, low))) k h) l.1 c
 
-never : (b : Bool) → b ≡ false → b ≡ true → ⊥
-never b e f = let clash : false ≡ true = sym e ∙ f in cc
-
 -- of a tree whose root changed no clean node is without records
 pub no_blank : (d : ℕ) (t : Tree d) (p : Part) → d ≤ 3 → AtLeast two_fifths d 0 t → clean_of d t ≡ false → IsCleanPart p d t → p ≡ blank → ⊥
-no_blank zero t p low l e c is = never t.clean e c.0
-no_blank (suc d) t p low l e (inl c) is = never t.clean e c.0
+no_blank zero t p low l e c is = both_ways t.clean e c.0
+no_blank (suc d) t p low l e (inl c) is = both_ways t.clean e c.0
 no_blank (suc d) t p low l e (inr c) is =
     let some : 1 ≤ count_of p = some_below d p t.children (λ u k h. part_some d (two_fifths d) u p (omega (arith, low)) (share_some d (omega (arith, low))) k h) l.1 c in
     let none : count_of p ≡ 0 = ap count_of is in

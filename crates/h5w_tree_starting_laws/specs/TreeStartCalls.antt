@@ -13,12 +13,13 @@ use Rattle.h5w_steps.specs.Moments.{Moment}
 use Rattle.h5w_flush_laws.specs.Parts.{AreEnded, block_writes, pieces_of}
 use Rattle.h5w_flush_laws.specs.Rows.{ArePlaced}
 use Rattle.h5w_flush_laws.specs.Spaces.{Taken}
+use Rattle.h5w_flush_laws.specs.Chunks.{chunks_for}
 use Rattle.h5w_starting_laws.specs.Starting.{no_chunk}
 use Rattle.h5w_bt_index.specs.Index.{Index, no_tree}
 use Rattle.h5w_index.specs.Views.{a_tree}
 use Rattle.h5w_index.specs.Steps.{IsPlan}
 use Rattle.h5w_index.specs.Naming.{AreNamed}
-use Rattle.h5w_tree_index_laws.specs.TreeFlushes.{chunks_for, header_range}
+use Rattle.h5w_tree_index_laws.specs.TreeFlushes.{header_range}
 use Rattle.h5w_tree_starting_laws.specs.TreeStarting.{IsTreeStart, parts_for}
 
 -- the calls of such a flush

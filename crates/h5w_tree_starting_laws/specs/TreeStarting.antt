@@ -25,12 +25,13 @@ use Rattle.h5w_flush_laws.specs.Rows.{ArePlaced}
 use Rattle.h5w_flush_laws.specs.Flushes.{IsBegun, Rests, flush_planned, shown_also}
 use Rattle.h5w_starting_laws.specs.Starting.{no_chunk}
 use Rattle.h5w_bt.specs.declared.records.Record.{Record}
+use Rattle.h5w_flush_laws.specs.Chunks.{chunks_for}
 use Rattle.h5w_bt_index.specs.Marks.{Part, clean_of}
 use Rattle.h5w_bt_index.specs.Index.{Index, IsClean, IsFilled, IsIndex, address_of, inserted, no_tree}
 use Rattle.h5w_bt_nodes.specs.Blocks.{written}
 use Rattle.h5w_bt_index.specs.Plans.{IsTreePlan, header_of, news}
 use Rattle.h5w_tree_index_laws.specs.TreeImages.{AreAmong, SameNodes, behind_of, blank}
-use Rattle.h5w_tree_index_laws.specs.TreeFlushes.{TreeRests, chunks_for, header_range}
+use Rattle.h5w_tree_index_laws.specs.TreeFlushes.{TreeRests, header_range}
 
 -- the dataset's index is a tree that its layout does not name yet
 pub record IsUnnamedTree (d : Described) : Type 0 where

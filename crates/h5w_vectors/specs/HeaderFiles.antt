@@ -550,6 +550,3 @@ older_superblock_file =
     ++ (80 ∷ 3 ∷ 0 ∷ 0 ∷ 0 ∷ 0 ∷ 0 ∷ 0 ∷ [])
     ++ replicate 248 255
     ++ (107 ∷ 226 ∷ 15 ∷ 157 ∷ 7 ∷ [])
-
-abbrev pub older_superblock_reading : Reading
-older_superblock_reading = record { place = 106; dataset = line 53 1 signed_byte None 200 13; table = replicate 52 undefined ++ 848 ∷ [] }

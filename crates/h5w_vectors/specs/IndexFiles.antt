@@ -34,9 +34,6 @@ third_data_block_file =
     ++ replicate 248 255
     ++ (107 ∷ 226 ∷ 15 ∷ 157 ∷ 7 ∷ [])
 
-abbrev pub third_data_block_reading : Reading
-third_data_block_reading = record { place = 106; dataset = line 53 1 signed_byte None 200 13; table = replicate 52 undefined ++ 848 ∷ [] }
-
 -- one chunk in data block 5, the last that the index block names
 abbrev pub sixth_data_block_file : List ℕ
 sixth_data_block_file =

@@ -7,12 +7,13 @@ ghost use Rattle.h5w_model.specs.declared.refusal.ReadError.TheVariants.{Damaged
 ghost use Rattle.h5w_model.specs.declared.refusal.BlockFault.TheVariants.{Cut, Sum};
 ghost use Rattle.h5w_model.specs.declared.refusal.HeaderError.TheVariants.{Continuations, Unknown};
 ghost use Rattle.h5w_model.specs.declared.refusal.LinkError.TheVariants.{Dense, Malformed, NoSuchName, NotHard};
-ghost use Rattle.h5w_vectors.specs.HeaderFiles.{block_in_place_file, dense_links_file, filtered_file, full_link_file, full_link_reading, gap_file, huge_chunk_file, long_dataset_header_file, long_root_file, long_root_reading, misspelt_link_file, most_blocks_file, most_blocks_reading, moved_dataspace_file, nested_block_file, no_gap_file, no_rows_reading, older_superblock_file, older_superblock_reading, other_link_file, shared_layout_file, short_block_file, soft_link_file, too_many_blocks_file, tracked_file, tracked_reading, two_layouts_file, two_layouts_reading};
+ghost use Rattle.h5w_vectors.specs.HeaderFiles.{block_in_place_file, dense_links_file, filtered_file, full_link_file, full_link_reading, gap_file, huge_chunk_file, long_dataset_header_file, long_root_file, long_root_reading, misspelt_link_file, most_blocks_file, most_blocks_reading, moved_dataspace_file, nested_block_file, no_gap_file, no_rows_reading, older_superblock_file, other_link_file, shared_layout_file, short_block_file, soft_link_file, too_many_blocks_file, tracked_file, tracked_reading, two_layouts_file, two_layouts_reading};
+ghost use Rattle.h5w_vectors.specs.DamagedFiles.{last_chunk_reading};
 ghost use Rattle.h5w_vectors.specs.Readings.{IsRefusedFile, IsValidFile, summary_as};
 
 /// A superblock of version 2, whose flags say nothing.
 pub fn superblocks()
-    ensures older_superblock { IsValidFile older_superblock_file older_superblock_reading (replicate 52 (pos 0) ++ pos 7 ∷ []) (summary_as 53 1 6 849 12) }
+    ensures older_superblock { IsValidFile older_superblock_file last_chunk_reading (replicate 52 (pos 0) ++ pos 7 ∷ []) (summary_as 53 1 6 849 12) }
 {}
 
 /// Continuation blocks: in place of their message, one of a block before a later one, too short, 32 of them, and 33.

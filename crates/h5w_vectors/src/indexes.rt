@@ -4,12 +4,13 @@ ghost use Rattle.std.specs.Prelude.{[], ◌∷◌, ◌++◌, replicate, pos};
 ghost use Rattle.h5w_model.specs.Findings.{found, bad_index_header, bad_secondary_block, bad_data_block, keys_not_rising};
 ghost use Rattle.h5w_model.specs.declared.refusal.ReadError.TheVariants.{Damaged};
 ghost use Rattle.h5w_model.specs.declared.refusal.BlockFault.TheVariants.{Field};
-ghost use Rattle.h5w_vectors.specs.IndexFiles.{array_pages_file, filtered_data_block_file, filtered_secondary_block_file, first_secondary_block_file, first_secondary_block_reading, last_of_secondary_block_file, last_of_secondary_block_reading, no_root_file, absent_chunks_reading, sixth_data_block_file, sixth_data_block_reading, third_data_block_file, third_data_block_reading, tree_split_file, unsorted_leaf_file, unsorted_leaf_reading};
+ghost use Rattle.h5w_vectors.specs.IndexFiles.{array_pages_file, filtered_data_block_file, filtered_secondary_block_file, first_secondary_block_file, first_secondary_block_reading, last_of_secondary_block_file, last_of_secondary_block_reading, no_root_file, absent_chunks_reading, sixth_data_block_file, sixth_data_block_reading, third_data_block_file, tree_split_file, unsorted_leaf_file, unsorted_leaf_reading};
+ghost use Rattle.h5w_vectors.specs.DamagedFiles.{last_chunk_reading};
 ghost use Rattle.h5w_vectors.specs.Readings.{IsFoundFile, IsRefusedFile, IsValidFile, summary_as};
 
 /// A chunk in a data block that the index block names, and behind a secondary block.
 pub fn arrays()
-    ensures third_data_block { IsValidFile third_data_block_file third_data_block_reading (replicate 52 (pos 0) ++ pos 7 ∷ []) (summary_as 53 1 6 849 12) }
+    ensures third_data_block { IsValidFile third_data_block_file last_chunk_reading (replicate 52 (pos 0) ++ pos 7 ∷ []) (summary_as 53 1 6 849 12) }
     ensures sixth_data_block { IsValidFile sixth_data_block_file sixth_data_block_reading (replicate 180 (pos 0) ++ pos 7 ∷ []) (summary_as 181 1 6 1105 12) }
     ensures first_secondary_block { IsValidFile first_secondary_block_file first_secondary_block_reading (replicate 244 (pos 0) ++ pos 7 ∷ []) (summary_as 245 1 7 1159 12) }
     ensures last_of_secondary_block { IsValidFile last_of_secondary_block_file last_of_secondary_block_reading (replicate 441 (pos 0) ++ pos 7 ∷ []) (summary_as 442 1 7 1159 12) }

@@ -16,6 +16,7 @@ use Rattle.h5w_model.specs.declared.refusal.ReadError.{ReadError}
 use Rattle.h5w_model.specs.declared.refusal.ReadError.TheVariants.{Damaged}
 use Rattle.h5w_laws.proofs.ResultLemmas.{fails, then_ok, choice_ok}
 use Rattle.h5w_laws.proofs.ReachLemmas.{IsNear, near_place}
+use Rattle.h5w_laws.proofs.EndLemmas.{ranges_are, same_ranges}
 use Rattle.h5w_visits.specs.Ranges.{Among, AllAmong, AllEndBy, AllSome, AllWithin, block_at, chunk_at}
 use Rattle.h5w_visits.proofs.RangeLemmas.{among_left, among_right, ends_nil, ends_cons, some_nil, some_cons, within_more}
 use Rattle.h5w_visits.proofs.VisitTells.{VisitTells, no_visit, told_nil, told_both, told_choice, told_other, told_one, told_block, both_parts, block_parts}
@@ -47,12 +48,6 @@ pub record Chunks (end bytes : ℕ) (places : List ℕ) (us : List Used) : Type 
   pub some : 0 < bytes → AllSome us
   pub other : (new : ℕ) → AllEndBy new us → chunk_ranges new bytes places ≡ Ok us
   pub each : (k : ℕ) → get_or places k undefined ≢ undefined → Among (chunk_at (get_or places k undefined) bytes) us
-
-abbrev pub ranges_are : List Used → Result (List Used) Finding
-ranges_are us = Ok us
-
-pub same_ranges : (us vs : List Used) → ranges_are us ≡ ranges_are vs → us ≡ vs
-same_ranges us vs h = cc
 
 pub no_chunks : (end bytes : ℕ) → Chunks end bytes [] []
 no_chunks end bytes = record { ends = ends_nil end; some = λ h. some_nil; other = λ new h. refl; each = λ k d. absurd (d (get_or_past [] k undefined (omega arith))) }

@@ -7,7 +7,7 @@ use Rattle.h5w_model.specs.Images.{apply, Misses}
 use Rattle.h5w_model.specs.Programs.{Prog, ret, whole, eval, visits, Visit, all_of}
 use Rattle.h5w_model.specs.Headers.{prefix_at, messages_at, header_view}
 use Rattle.h5w_model.specs.Datasets.{FoundMessage, Range, HeaderFields, found_at, block_place, block_len, block_messages, splice, walk, from_chunk_0, root_view, header_refusal, then_also}
-use Rattle.h5w_model.specs.Findings.{Finding, found, Used, header_ranges, block_past_end}
+use Rattle.h5w_model.specs.Findings.{found, Used, header_ranges, block_past_end}
 use Rattle.h5w_model.specs.declared.message.Msg.{Msg}
 use Rattle.h5w_model.specs.declared.message.Prefix.{Prefix}
 use Rattle.h5w_model.specs.declared.piece.Write.{Write}
@@ -18,6 +18,8 @@ use Rattle.h5w_model.proofs.ImageLemmas.{range-apply_missed, Apart-part}
 use Rattle.h5w_laws.proofs.ResultLemmas.{then_ok, fails, choice_ok}
 use Rattle.h5w_laws.proofs.PrefixLemmas.{header_view_short, root_view_says, IsRootView}
 use Rattle.h5w_laws.proofs.DatasetReads.{look_says, chunk_says, chunk_in_look}
+use Rattle.h5w_laws.proofs.EndLemmas.{ranges_are, same_ranges}
+use Rattle.h5w_laws.proofs.SpliceLemmas.{as_read}
 use Rattle.h5w_visits.specs.Ranges.{AllEndBy, AllSome, AllWithin, block_at, blocks_of, visits_of}
 use Rattle.h5w_visits.specs.Headers.{AllBlocks}
 use Rattle.h5w_visits.proofs.RangeLemmas.{ends_nil, ends_cons, some_nil, some_cons, within_own}
@@ -57,12 +59,6 @@ pub used_some : (rs : List Range) → AllLong rs → AllSome (used_of rs)
 used_some [] h = some_nil
 used_some (r ∷ rs) h = some_cons (block_at r.place r.len) (used_of rs) h.0 (used_some rs h.1)
 
-abbrev pub ranges_are : List Used → Result (List Used) Finding
-ranges_are us = Ok us
-
-pub same_ranges : (us vs : List Used) → ranges_are us ≡ ranges_are vs → us ≡ vs
-same_ranges us vs h = cc
-
 pub ranges_ok : (end : ℕ) (rs : List Range) (us : List Used) → header_ranges end rs ≡ Ok us → (us ≡ used_of rs) × AllEndBy end us
 ranges_ok end [] us h =
     let e = same_ranges [] us h in
@@ -93,10 +89,7 @@ pub record Walked (img : List ℕ) (p : Prog (Result HeaderFields ReadError)) (v
   pub looks : visits img p ≡ looks_of blocks
   pub long : AllLong blocks
 
-abbrev pub header_is : HeaderFields → Result HeaderFields ReadError
-header_is h = Ok h
-
-pub same_header : (g h : HeaderFields) → header_is g ≡ header_is h → g ≡ h
+pub same_header : (g h : HeaderFields) → as_read g ≡ as_read h → g ≡ h
 same_header g h e = cc
 
 pub splice_walked : (img : List ℕ) (at_block : List FoundMessage → FoundMessage → List FoundMessage → Prog (Result HeaderFields ReadError)) (visited : List Range) (done ms : List FoundMessage) (h : HeaderFields)

@@ -16,6 +16,7 @@ use Rattle.h5w_model.specs.declared.refusal.ReadError.{ReadError}
 use Rattle.h5w_model.specs.declared.refusal.ReadError.TheVariants.{Damaged}
 use Rattle.h5w_model.proofs.CheckedLemmas.{checked-passed}
 use Rattle.h5w_laws.proofs.ResultLemmas.{then_ok, refused_ok, choice_ok, choice_from, and_then_ok}
+use Rattle.h5w_laws.proofs.EndLemmas.{same_ranges}
 use Rattle.h5w_visits.specs.Ranges.{Among, AllEndBy, block_at, blocks_of}
 use Rattle.h5w_visits.specs.Indexes.{IsNamed, behind_visit}
 use Rattle.h5w_visits.proofs.RangeLemmas.{ends_nil, ends_cons}
@@ -50,12 +51,6 @@ header_sound b place t h =
 pub record BehindKnown (img : List ℕ) (end bytes : ℕ) (blocks : InPlace) (us : List Used) : Type 0 where
   pub told : VisitTells img end bytes (λ e. behind_visit e bytes blocks) us us
   pub keys : (key : Key) → Names blocks key → Answers img bytes us (address_behind blocks key)
-
-abbrev pub ranges_are : List Used → Result (List Used) Finding
-ranges_are us = Ok us
-
-pub same_ranges : (us vs : List Used) → ranges_are us ≡ ranges_are vs → us ≡ vs
-same_ranges us vs h = cc
 
 pub behind_known : (img : List ℕ) (end bytes : ℕ) (blocks : InPlace) (us : List Used) → IsSound blocks → eval img (behind_visit end bytes blocks) ≡ Ok us → BehindKnown img end bytes blocks us
 behind_known img end bytes nowhere us sound h = record {

@@ -8,6 +8,7 @@ use Rattle.h5w_model.specs.Programs.{Prog, ret, whole, eval, and_then, Visit, vi
 use Rattle.h5w_model.specs.Findings.{Finding, found, Used, Visited, block_in, both, block_past_end}
 use Rattle.h5w_laws.proofs.ProgramLemmas.{visits_bind}
 use Rattle.h5w_laws.proofs.ResultLemmas.{and_then_ok, and_then_from}
+use Rattle.h5w_laws.proofs.EndLemmas.{same_ranges}
 use Rattle.h5w_visits.specs.Ranges.{AllEndBy, AllSome, AllWithin, block_at}
 use Rattle.h5w_visits.proofs.RangeLemmas.{among_left, among_right, ends_nil, ends_cons, ends_joined, ends_left, ends_right, some_nil, some_cons, some_joined, within_more, within_joined}
 
@@ -61,12 +62,6 @@ pub record Both (img : List ℕ) (p q : Visited) (us : List Used) : Type 0 where
   pub of_first : eval img p ≡ Ok first
   pub of_second : eval img q ≡ Ok second
   pub parts : first ++ second ≡ us
-
-abbrev pub ranges_found : List Used → Result (List Used) Finding
-ranges_found us = Ok us
-
-pub same_ranges : (us vs : List Used) → ranges_found us ≡ ranges_found vs → us ≡ vs
-same_ranges us vs h = cc
 
 pub both_parts : (img : List ℕ) (p q : Visited) (us : List Used) → eval img (both p q) ≡ Ok us → Both img p q us
 both_parts img p q us h =

@@ -5,7 +5,7 @@ use Rattle.std.proofs.lemmas.Bool.{le-ltb}
 use Rattle.h5w_model.specs.Numbers.{range}
 use Rattle.h5w_model.specs.Images.{At, image}
 use Rattle.h5w_model.specs.Programs.{Prog, ret, whole, eval}
-use Rattle.h5w_model.specs.Headers.{header_bytes, header_view, messages_at, msgs_bytes, placed, prefix_at}
+use Rattle.h5w_model.specs.Headers.{header_bytes, messages_at, msgs_bytes, placed, prefix_at}
 use Rattle.h5w_model.specs.Datasets.{HeaderFields, Range, found_at, from_chunk_0, header_refusal, root_view}
 use Rattle.h5w_model.specs.Messages.{unsupported}
 use Rattle.h5w_model.specs.Findings.{Used}
@@ -32,6 +32,7 @@ use Rattle.h5w_found.specs.Walks.{dataset_header_for, from_chunk_0_for, known_by
 use Rattle.h5w_creation_laws.specs.CreatedFiles.{CreatedFile, IsCreatable, created_moment, created_writes, described_of, header_block, header_len, header_place, index_blocks, root_block, root_len, root_messages, root_place, super_of}
 use Rattle.h5w_creation_laws.proofs.CreatedLaws.{created_new, created_sizes, front_blocks}
 use Rattle.h5w_creation_laws.proofs.SizeLemmas.{prefix_long, root_long, root_messages_long}
+use Rattle.h5w_creation_laws.proofs.RootLemmas.{root_view-by}
 use Rattle.h5w_writable_laws.specs.Writable.{CanBeWritten, CreatedWritable}
 
 abbrev Answer : Type 0
@@ -47,9 +48,6 @@ alone place p ms = record { messages = found_at place true ms; ranges = record {
 taken : (img : List ℕ) (place : ℕ) (p : Prefix) (b : List ℕ) (ms : List Msg) → messages_at b ≡ Ok ms → known_by true (Ok ms) ≡ Ok ms → eval img (walks_for place p ms) ≡ Ok (alone place p ms)
     → eval img (from_chunk_0_for true place p b) ≡ Ok (alone place p ms)
 taken img place p b ms read known walked = choice_from img (known_by true (messages_at b)) (walks_for place p) (header_refusal place) ms (alone place p ms) (ap (known_by true) read ∙ known) walked
-
-root_view_by : (b : List ℕ) (p : Prefix) → prefix_at b ≡ Ok p → p.total ≤ 512 → root_view b ≡ header_view b
-root_view_by b p h k = rw (h, root_view, le-ltb 512 p.total k) refl
 
 first_range : (u v : Used) (us vs : List Used) → ◌≡◌ {A = List Used} (u ∷ us) (v ∷ vs) → u ≡ v
 first_range u v us vs e = cc
@@ -97,7 +95,7 @@ module _ (f : CreatedFile) (is : IsCreatable f) where
       let bytes : List ℕ = header_bytes (root_messages f) in
       let long = root_long f bound in
       let here : first ≡ bytes =
-      root_view_by (range img place 512) p says small ∙ view_whole img place p says small ∙ ap (λ n. range img place n) (total ∙ sym long) ∙ root_there in
+      root_view-by (range img place 512) p says small ∙ view_whole img place p says small ∙ ap (λ n. range img place n) (total ∙ sym long) ∙ root_there in
       let ms : List Msg = placed 7 (root_messages f) in
       let read : messages_at first ≡ Ok ms = ap messages_at here ∙ root_says in (
         alone place p ms,

@@ -1,7 +1,8 @@
 use Rattle.std.proofs.Common.{arith, length-append, ◌+◌, ◌/◌, ◌≡◌, ◌++◌, ◌∷◌, [], ◌∙◌, ap, List, ℕ, length, min, vec_len}
 use Rattle.h5w_model.specs.Images.{pieces}
 use Rattle.h5w_model.specs.declared.piece.Write.{Write}
-use Rattle.h5w_cache.proofs.PieceLemmas.{pieces_next, pieces_all, count_next}
+use Rattle.h5w_model.proofs.PieceLemmas.{pieces_all, pieces_next}
+use Rattle.h5w_cache.proofs.PieceLemmas.{count_next}
 use Rattle.h5w_cache.proofs.write.put_pieces.Goals as goal
 
 pub loop-part-preserved : goal.loop-part-preserved

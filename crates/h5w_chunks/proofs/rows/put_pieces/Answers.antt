@@ -1,6 +1,6 @@
 use Rattle.std.proofs.Common.{arith, length-append, ◌+◌, ◌≡◌, ◌++◌, ◌∙◌, ap, ℕ, length, min}
 use Rattle.h5w_model.specs.Images.{pieces}
-use Rattle.h5w_chunks.proofs.Loops.{pieces_next, pieces_all}
+use Rattle.h5w_model.proofs.PieceLemmas.{pieces_all, pieces_next}
 use Rattle.h5w_chunks.proofs.rows.put_pieces.Goals as goal
 
 pub loop-part-preserved : goal.loop-part-preserved

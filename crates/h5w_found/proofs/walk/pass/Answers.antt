@@ -1,5 +1,6 @@
 use Rattle.std.proofs.Common.{◌≡◌, ◌∙◌, sym, length, arith}
-use Rattle.h5w_found.proofs.WalkLemmas.{pass_step, pass_visit, pass_end, empty}
+use Rattle.std.proofs.lemmas.List.{nil_from_length}
+use Rattle.h5w_found.proofs.WalkLemmas.{pass_step, pass_visit, pass_end}
 use Rattle.h5w_found.proofs.walk.pass.Goals as goal
 
 pub loop-m-preserved : goal.loop-m-preserved
@@ -13,4 +14,4 @@ returns-then-m-eq-CONTINUATION-clause-passed c = λ visit visited.
 pub returns-clause-passed : goal.returns-clause-passed
 returns-clause-passed c = λ visit visited.
     let none : length c.loop-m.next.items ≡ 0 = omega (arith, c.in_default.ensures.cases.0, c.loop-m.next.ok.0) in
-    sym (c.loop-m.invariant visit visited) ∙ pass_end visit visited c.loop-m.done.items c.loop-m.next.items (empty c.loop-m.next.items none)
+    sym (c.loop-m.invariant visit visited) ∙ pass_end visit visited c.loop-m.done.items c.loop-m.next.items (nil_from_length c.loop-m.next.items none)

@@ -1,5 +1,5 @@
 use Rattle.std.proofs.Common.{◌≡◌, ◌<◌, ◌≤◌, ◌∙◌, true, false, length, sym, arith}
-use Rattle.h5w_lookup.proofs.KeyLemmas.{below_trans}
+use Rattle.h5w_bt.proofs.KeyLemmas.{below-trans}
 use Rattle.h5w_lookup.proofs.NodeLemmas.{children_here, children_more, children_last, child_holds}
 use Rattle.h5w_lookup.proofs.SpanLemmas.{children_between}
 use Rattle.h5w_lookup.proofs.content.among_children.Goals as goal
@@ -53,5 +53,5 @@ loop-i-preserved c =
     let lt : c.loop-i.i < length c.args.children.now = omega arith in
     record {
       same = λ go. sym (children_more go c.args.key.now c.args.records.now c.args.children.now c.loop-i.i (record { address = 0; key = record { i = 0; j = 0 } }) (record { address = 0; records = 0; total = 0 }) inside lt (sym c.is_below.ensures ∙ below)) ∙ c.loop-i.invariant.same go;
-      ahead = λ k low go. sym (children_more go k c.args.records.now c.args.children.now c.loop-i.i (record { address = 0; key = record { i = 0; j = 0 } }) (record { address = 0; records = 0; total = 0 }) inside lt (below_trans _ c.args.key.now k (sym c.is_below.ensures ∙ below) low)) ∙ c.loop-i.invariant.ahead k low go;
+      ahead = λ k low go. sym (children_more go k c.args.records.now c.args.children.now c.loop-i.i (record { address = 0; key = record { i = 0; j = 0 } }) (record { address = 0; records = 0; total = 0 }) inside lt (below-trans _ c.args.key.now k (sym c.is_below.ensures ∙ below) low)) ∙ c.loop-i.invariant.ahead k low go;
     }

@@ -7,13 +7,13 @@ use Rattle.h5w_model.specs.Trees.{btlf_len}
 use Rattle.h5w_lookup.specs.Attempts.{known_of}
 use Rattle.h5w_lookup.specs.Blocks.{IsRead}
 use Rattle.h5w_dataset.specs.Described.{described_of}
+use Rattle.h5w_bt.proofs.KeyLemmas.{below-trans, below-not_back}
 use Rattle.h5w_lookup.specs.Seeking.{store_rest, next_rest}
 use Rattle.h5w_lookup.specs.Slots.{after_found}
 use Rattle.h5w_lookup.specs.Stores.{kept}
 use Rattle.h5w_lookup.specs.Unknown.{unknown_at}
 use Rattle.h5w_lookup.proofs.DescentLemmas.{slots_at, slots_push}
 use Rattle.h5w_lookup.proofs.IndexLemmas.{some_across}
-use Rattle.h5w_lookup.proofs.KeyLemmas.{below_trans, below_not_back}
 use Rattle.h5w_lookup.proofs.SpanLemmas.{span_records}
 use Rattle.h5w_lookup.proofs.follow.take.Goals as goal
 
@@ -51,8 +51,8 @@ loop-turn-preserved c =
     let more = inv.more in
     record {
       more = omega (arith, more, ap length c.in_ok-push.ensures.items, length-append xs (c.among_from-next.result.1 ∷ []));
-      behind = λ j h. inv.behind j (below_trans c.loop-turn.last key j after h);
-      left = λ j h. c.among_from-next.ensures.same j (below_not_back key j h) ∙ inv.left j (below_trans c.loop-turn.last key j after h);
+      behind = λ j h. inv.behind j (below-trans c.loop-turn.last key j after h);
+      left = λ j h. c.among_from-next.ensures.same j (below-not_back key j h) ∙ inv.left j (below-trans c.loop-turn.last key j after h);
       same = λ p is place.
           let next = after_found place known d p xs in
           slots_push place known d p ks c.among_from-next.result.1 xs c.push.new.self.items c.in_ok-push.ensures.items

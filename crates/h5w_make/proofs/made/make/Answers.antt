@@ -1,11 +1,11 @@
 use Rattle.std.proofs.Common.{rules, ◌≡◌, ◌∙◌, ◌<◌, ◌^◌, List, ℕ, map, pos, sum, sym, subst, arith, length}
+use Rattle.h5w_session.proofs.StateLemmas.{some_is}
 use Rattle.h5w_make.specs.Commands.{batches}
 use Rattle.h5w_make.specs.Generators.{numbers}
 use Rattle.h5w_make.specs.Readings.{IsReadable}
 use Rattle.h5w_make.proofs.GeneratorLemmas.{length_numbers, sum_bound}
 use Rattle.h5w_make.proofs.MadeLemmas.{made_is, readable_numbers, valid}
 use Rattle.h5w_make.proofs.made.make.Goals as goal
-use Rattle.h5w_session_laws.proofs.PieceLemmas.{some_is}
 
 pub blocks-requires : goal.blocks-requires
 blocks-requires c =

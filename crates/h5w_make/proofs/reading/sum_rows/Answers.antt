@@ -1,10 +1,10 @@
 use Rattle.std.proofs.Common.{rules, ◌≡◌, ◌∙◌, ◌≤◌, ◌<◌, ◌^◌, drop, take, length, map, pos, sum, sym, arith}
 use Rattle.std.proofs.lemmas.List.{length-map}
 use Rattle.h5w_reader.specs.Cores.{reader}
+use Rattle.h5w_session.proofs.StateLemmas.{some_is}
 use Rattle.h5w_make.proofs.GeneratorLemmas.{part_numbers, sum_all, sum_more, sum_within}
 use Rattle.h5w_make.proofs.ReadingLemmas.{same_rows, still_opened}
 use Rattle.h5w_make.proofs.reading.sum_rows.Goals as goal
-use Rattle.h5w_session_laws.proofs.PieceLemmas.{some_is}
 
 pub read_part-requires : goal.read_part-requires
 read_part-requires c =

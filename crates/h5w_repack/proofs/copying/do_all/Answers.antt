@@ -1,6 +1,7 @@
 use Rattle.std.proofs.Common.{◌≡◌, Err, List, drop, refl, sym, ◌∙◌, subst, rules}
+use Rattle.h5w_image.proofs.DiskLemmas.{rose_from}
 use Rattle.h5w_packing.specs.declared.job.Job.{Job}
-use Rattle.h5w_repack.proofs.CopyLemmas.{Copying, copying_ends, copying_fails, copying_first, copying_next, fewer_left, next_fits, next_room, rose_later}
+use Rattle.h5w_repack.proofs.CopyLemmas.{Copying, copying_ends, copying_fails, copying_first, copying_next, fewer_left, next_fits, next_room}
 use Rattle.h5w_repack.proofs.copying.do_all.Goals as goal
 
 pub loop-job-init : goal.loop-job-init
@@ -27,7 +28,7 @@ returns-in_err-do_job-clause-from_fault g c e =
     let u = (g.P.Pair.view c.args.pair.now) in
     let v = (g.P.Pair.view c.loop-job.pair) in
     let w = (g.P.Pair.view c.do_job.new.pair) in
-    rose_later u.from.faults v.from.faults w.from.faults c.loop-job.invariant.copying.done.carries.from.faults (c.in_err-do_job.ensures.from_fault (sym is ∙ e))
+    rose_from u.from.faults v.from.faults w.from.faults c.loop-job.invariant.copying.done.carries.from.faults (c.in_err-do_job.ensures.from_fault (sym is ∙ e))
 
 pub returns-in_err-do_job-clause-to_fault : goal.returns-in_err-do_job-clause-to_fault
 returns-in_err-do_job-clause-to_fault g c e =
@@ -35,7 +36,7 @@ returns-in_err-do_job-clause-to_fault g c e =
     let u = (g.P.Pair.view c.args.pair.now) in
     let v = (g.P.Pair.view c.loop-job.pair) in
     let w = (g.P.Pair.view c.do_job.new.pair) in
-    rose_later u.to.faults v.to.faults w.to.faults c.loop-job.invariant.copying.done.carries.wrote.faults (c.in_err-do_job.ensures.to_fault (sym is ∙ e))
+    rose_from u.to.faults v.to.faults w.to.faults c.loop-job.invariant.copying.done.carries.wrote.faults (c.in_err-do_job.ensures.to_fault (sym is ∙ e))
 
 pub loop-job-smaller : goal.loop-job-smaller
 loop-job-smaller g c = fewer_left c.loop-job.packing.left c.done.new.self.left c.in-Some.job (sym c.next.ensures ∙ c.in-Some.is) c.done.ensures.left

@@ -4,6 +4,7 @@ use Rattle.h5w_image.specs.View.{Wrote}
 use Rattle.h5w_image.proofs.ViewLemmas.{looked_twice, same_itself, wrote_nothing}
 use Rattle.h5w_looks.proofs.ReadLemmas.{still_on}
 use Rattle.std.specs.Prelude.{map}
+use Rattle.h5w_image.proofs.DiskLemmas.{rose_from}
 use Rattle.h5w_packing.specs.Plans.{IsOut, IsPlanned, wanted_of}
 use Rattle.h5w_packing.specs.SoFar.{AreSources}
 use Rattle.h5w_packing.specs.declared.source.Source.{Source}
@@ -11,7 +12,6 @@ use Rattle.h5w_repack.specs.Errors.{of_copy, of_plan, of_survey}
 use Rattle.h5w_repack.specs.Packed.{IsPacked}
 use Rattle.h5w_repack.specs.Pairs.{PairView}
 use Rattle.h5w_repack.specs.declared.error.RepackError.TheVariants as errors
-use Rattle.h5w_repack.proofs.CopyLemmas.{rose_later}
 use Rattle.h5w_repack.proofs.RepackLemmas.{are_sources, copy_error, copy_from, copy_to, late_or_none, names_count, out_by, packed_by, plan_error, same_error, unborn_bytes, writes_are, written_bytes, wrote_plain}
 use Rattle.h5w_repack.proofs.repacking.repack.Goals as goal
 
@@ -69,7 +69,7 @@ returns-in_err-copy-clause-from_fault g c r =
     let u = g.I.PieceRead.view c.args.images.now.from in
     let v = g.I.PieceRead.view c.survey.new.from in
     let w = g.I.PieceRead.view c.copy.new.pair.from in
-    rose_later u.faults v.faults w.faults c.survey.ensures.step.looked.faults (c.in_err-copy.ensures.from_fault (ap Err same))
+    rose_from u.faults v.faults w.faults c.survey.ensures.step.looked.faults (c.in_err-copy.ensures.from_fault (ap Err same))
 
 pub returns-in_err-copy-clause-to_fault : goal.returns-in_err-copy-clause-to_fault
 returns-in_err-copy-clause-to_fault g c r =

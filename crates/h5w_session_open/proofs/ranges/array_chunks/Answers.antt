@@ -1,8 +1,8 @@
 use Rattle.std.proofs.Common.{◌≡◌, ◌+◌, ◌-◌, ◌<◌, ◌++◌, ◌∷◌, [], List, sym, ap, ◌∙◌, append_assoc, arith, rules}
 use Rattle.h5w_space.specs.Space.{extent}
 use Rattle.h5w_space.specs.declared.Extent.{Extent}
+use Rattle.h5w_space.specs.Ranges.{range_at}
 use Rattle.h5w_array_laws.specs.ArrayStores.{map_of}
-use Rattle.h5w_ea_index.specs.Ranges.{range_at}
 use Rattle.h5w_session_open.specs.OpenRanges.{chunks_from}
 use Rattle.h5w_session_open.proofs.OpenRangeLemmas.{found_range, next_chunk, unfound_range}
 use Rattle.h5w_session_open.proofs.ranges.array_chunks.Goals as goal

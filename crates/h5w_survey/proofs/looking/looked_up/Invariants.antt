@@ -1,9 +1,9 @@
 use Rattle.std.proofs.Common.{◌≡◌, ℕ, List, None}
 use Rattle.h5w_model.specs.Programs.{eval}
 use Rattle.h5w_image.specs.View.{Looked}
+use Rattle.h5w_laws.specs.MostLooks.{most_looks}
 use Rattle.h5w_looks.specs.Still.{IsStill}
 use Rattle.h5w_lookup.specs.Attempts.{looked_up, rules_of}
-use Rattle.h5w_survey.specs.Lookups.{most_looks}
 use Rattle.h5w_survey.proofs.looking.looked_up.Given as goal
 
 abbrev pub invariant-loop-step : goal.invariant-loop-step

@@ -1,8 +1,8 @@
 use Rattle.std.proofs.Common.{◌<◌, List, ℕ, None, subst, sym}
 use Rattle.h5w_model.specs.Numbers.{AreBytes}
+use Rattle.h5w_laws.specs.MostLooks.{most_looks}
+use Rattle.h5w_laws.proofs.MostLooks.{most_fed}
 use Rattle.h5w_lookup.specs.Attempts.{looking_up, rules_of}
-use Rattle.h5w_survey.specs.Lookups.{most_looks}
-use Rattle.h5w_survey.proofs.LookLemmas.{most_fed}
 use Rattle.h5w_survey.proofs.looking.one_look.Goals as goal
 
 pub returns-clause-fewer : goal.returns-clause-fewer

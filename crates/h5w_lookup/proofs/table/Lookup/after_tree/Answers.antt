@@ -5,9 +5,9 @@ use Rattle.h5w_model.specs.Trees.{bthd_at}
 use Rattle.h5w_bt.specs.Fields.{bthd_of}
 use Rattle.h5w_dataset.specs.Described.{described_of}
 use Rattle.h5w_model.specs.Calls.{known_table}
+use Rattle.h5w_laws.proofs.NodeLemmas.{root_is}
 use Rattle.h5w_lookup.specs.Attempts.{known_of, rules_of, looked_up, tree_rest}
 use Rattle.h5w_lookup.proofs.PieceLemmas.{along}
-use Rattle.h5w_lookup.proofs.NodeLemmas.{root_is}
 use Rattle.h5w_lookup.proofs.IndexLemmas.{nowhere_indexed, tree_indexed}
 use Rattle.h5w_lookup.proofs.TableLemmas.{tree_err, tree_none, tree_some}
 use Rattle.h5w_lookup.proofs.table.Lookup.after_tree.Goals as goal

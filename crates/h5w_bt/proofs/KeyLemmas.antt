@@ -1,6 +1,6 @@
 -- The order of keys.
-use Rattle.std.proofs.Common.{◌≡◌, ◌<◌, true, false, ◌&&◌, ◌⊎◌, inl, inr, refl, sym, subst, arith, eqb, ltb}
-use Rattle.std.proofs.lemmas.Bool.{ltb-true, eqb-true, lt-ltb, eq-eqb, cases_order, or_cases, and_parts, or_left, or_right, and_from, both_ways, false_from_ne_true}
+use Rattle.std.proofs.Common.{◌≡◌, ◌<◌, ◌⊎◌, true, ◌&&◌, inl, inr, eqb, ltb, arith, false, refl, sym, subst}
+use Rattle.std.proofs.lemmas.Bool.{lt-ltb, eq-eqb, or_left, or_right, and_from, ltb-true, eqb-true, or_cases, and_parts, false_from_ne_true, both_ways, cases_order}
 use Rattle.h5w_model.specs.declared.cell.Key.{Key}
 use Rattle.h5w_model.specs.Tables.{key_below, key_equal}
 
@@ -19,13 +19,13 @@ below_is a b h = elim (or_cases (ltb a.i b.i) (eqb a.i b.i && ltb a.j b.j) h) [
   | inr r ↦ (let p = and_parts (eqb a.i b.i) (ltb a.j b.j) r in inr (eqb-true a.i b.i (p.0), ltb-true a.j b.j (p.1)))
 ]
 
-less_trans : (a b c : Key) → Less a b → Less b c → Less a c
+pub less_trans : (a b c : Key) → Less a b → Less b c → Less a c
 less_trans a b c (inl x) (inl y) = inl (omega arith)
 less_trans a b c (inl x) (inr y) = inl (omega arith)
 less_trans a b c (inr x) (inl y) = inl (omega arith)
 less_trans a b c (inr x) (inr y) = inr (omega arith, omega arith)
 
-less_not_back : (a b : Key) → Less a b → Less b a → ⊥
+pub less_not_back : (a b : Key) → Less a b → Less b a → ⊥
 less_not_back a b (inl x) (inl y) = omega arith
 less_not_back a b (inl x) (inr y) = omega arith
 less_not_back a b (inr x) (inl y) = omega arith

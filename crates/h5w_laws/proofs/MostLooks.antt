@@ -1,17 +1,17 @@
--- That the looks of a program come to an end, and that what each gives leaves what an image that stays gives.
-use Rattle.std.proofs.Common.{◌≡◌, ℕ, zero, suc, ◌<◌, ◌≤◌, List, [], ◌∷◌, length, Option, Some, None, subst, ap, inl, inr, arith}
+-- A look that was given takes one of the most looks of a program.
+use Rattle.std.proofs.Common.{ℕ, Option, Some, None, ◌≡◌, zero, suc, ◌≤◌, subst, inl, inr, arith, ◌<◌, List, [], ◌∷◌, length, ap}
 use Rattle.std.proofs.lemmas.Bool.{cases_lt}
-use Rattle.std.proofs.lemmas.List.Elements.{All-head, All-tail}
 use Rattle.std.proofs.Math.Nat.{le_trans, le-max_left, le-max_right}
+use Rattle.std.proofs.lemmas.List.Elements.{All-head, All-tail}
 use Rattle.h5w_model.specs.Numbers.{AreBytes}
 use Rattle.h5w_model.specs.Programs.{Prog, ret, whole, counted, stored, next_look, fed}
-use Rattle.h5w_survey.specs.Lookups.{greatest_at, greatest_to, most_looks}
+use Rattle.h5w_laws.specs.MostLooks.{greatest_to, greatest_at, most_looks}
 
-abbrev length_in : Option (ℕ × ℕ) → ℕ
+abbrev pub length_in : Option (ℕ × ℕ) → ℕ
 length_in None = 0
 length_in (Some look) = look.1
 
-greatest_to_most : (n : ℕ) (f : ℕ → ℕ) (k : ℕ) → k ≤ n → f k ≤ greatest_to n f
+pub greatest_to_most : (n : ℕ) (f : ℕ → ℕ) (k : ℕ) → k ≤ n → f k ≤ greatest_to n f
 greatest_to_most zero f k h = let e : 0 ≡ k = omega arith in subst (λ x. f x ≤ f 0) e (omega arith)
 greatest_to_most (suc n) f k h =
     elim (cases_lt n k) [
@@ -19,7 +19,7 @@ greatest_to_most (suc n) f k h =
       | inr low ↦ le_trans (greatest_to_most n f k low) (le-max_right (f (suc n)) (greatest_to n f))
     ]
 
-greatest_at_most : (n : ℕ) (f : List ℕ → ℕ) (bytes : List ℕ) → AreBytes bytes → length bytes ≤ n → f bytes ≤ greatest_at n f
+pub greatest_at_most : (n : ℕ) (f : List ℕ → ℕ) (bytes : List ℕ) → AreBytes bytes → length bytes ≤ n → f bytes ≤ greatest_at n f
 greatest_at_most zero f [] are h = omega arith
 greatest_at_most zero f (b ∷ bs) are h = absurd (omega arith)
 greatest_at_most (suc n) f [] are h = le-max_left (f []) (greatest_to 255 (λ b. greatest_at n (λ bs. f (b ∷ bs))))
