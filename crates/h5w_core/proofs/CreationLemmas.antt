@@ -28,8 +28,8 @@ use Rattle.h5w_core.specs.Worlds.{HaveOneLog, HoldsTogether, IsNewWorld, nobody,
 use Rattle.h5w_core.proofs.ShowLemmas.{after_facts, same_cutting, still_piece}
 use Rattle.h5w_core.proofs.StateLemmas.{new_now}
 use Rattle.h5w_core.proofs.WorldLemmas.{world_of}
-use Rattle.h5w_session_laws.proofs.PieceLemmas.{some_is}
 use Rattle.h5w_session.proofs.PastLemmas.{spent_in-events}
+use Rattle.h5w_session.proofs.StateLemmas.{some_is}
 
 -- how many they are
 abbrev pub total : Options → ℕ

@@ -127,14 +127,14 @@ other_fits w s states r new inside fits polls =
     }
 
 -- a reader's state without its call
-abbrev without_call : ReaderState → ReaderState
+abbrev pub without_call : ReaderState → ReaderState
 without_call x = record x { call = None }
 
 call_ends : (g : Polling) (log : Log) (x : Reader) (call : Option Calling) → CallPolls g log x call → CallPolls g log (ended x) None
 call_ends g log x None polls = (refl, polls.1)
 call_ends g log x (Some c) polls = (refl, knows_later g log polls.from (now log) x.known polls.within polls.knew)
 
-may_end : (g : Polling) (log : Log) (o : Option ReaderState) (x : Reader) → MayPoll g log o (Some x) → (y : ReaderState) × MayPoll g log (Some y) (Some (ended x))
+pub may_end : (g : Polling) (log : Log) (o : Option ReaderState) (x : Reader) → MayPoll g log o (Some x) → (y : ReaderState) × MayPoll g log (Some y) (Some (ended x))
 may_end g log None x polls = absurd polls
 may_end g log (Some y) x polls = (without_call y, record { rules = polls.rules; seen = polls.seen; call = call_ends g log x y.call polls.call })
 

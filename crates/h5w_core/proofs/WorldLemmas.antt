@@ -8,8 +8,8 @@ use Rattle.h5w_image.specs.View.{Same, Wrote}
 use Rattle.h5w_session.specs.Sessions.{Session}
 use Rattle.h5w_reader.specs.declared.reader.ReaderCore.{ReaderCore}
 use Rattle.h5w_steady.specs.Steady.{steady}
+use Rattle.h5w_session.proofs.StateLemmas.{some_is}
 use Rattle.h5w_core.specs.Worlds.{WorldView, shown_world}
-use Rattle.h5w_session_laws.proofs.PieceLemmas.{some_is}
 
 -- a world by its parts
 abbrev pub world_of : Session → MemView → ℕ → List (Option ReaderCore) → WorldView

@@ -3,7 +3,7 @@
 #![tactic(auto)]
 
 mod laws;
-mod readers;
+pub mod readers;
 mod world;
 
 pub use h5w_image::Journal;

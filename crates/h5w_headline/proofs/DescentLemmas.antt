@@ -1,5 +1,5 @@
 -- How many looks the addresses of chunks take at most: two at the blocks in place of an array, one at those of a tree, and
--- behind them 19 for a chunk.
+-- behind them 19 for a chunk, but 16 for the first.
 use Rattle.std.proofs.Common.{◌≡◌, ℕ, zero, suc, ◌+◌, ◌-◌, ◌*◌, ◌/◌, ◌<◌, ◌≤◌, List, [], ◌∷◌, ◌++◌, length, map, take, get_or, Result, Ok, Err, refl, sym, ◌∙◌, ap, subst, arith, length-append}
 use Rattle.std.specs.Prelude.{◌==◌, nat_le, nat_lt, if◌then◌else◌, codes}
 use Rattle.std.specs.List.{AllByRecursion, range_with_len, flat_map}
@@ -11,7 +11,7 @@ use Rattle.h5w_model.specs.Arrays.{EaibFields, eahd_at, eaib_at, easb_at, eadb_a
 use Rattle.h5w_model.specs.Blocks.{block_tests}
 use Rattle.h5w_model.specs.Trees.{RecordFields, ChildFields, BthdFields, BtinFields, bthd_at, bthd_tests, bthd_fields, btin_at, btin_fields, btlf_len, btin_len, capacity_of, pointer_size, node_tests, child_tests, children_in}
 use Rattle.h5w_model.specs.Datasets.{Described, then_also, refused_as}
-use Rattle.h5w_model.specs.Tables.{InPlace, nowhere, in_array, in_tree, in_place, array_in_place, tree_in_place, address_behind, array_slot, data_slot, secondary_slot, data_block, secondary_block, super_block_of_first, in_node, key_below, key_equal, tree_lookup, needed, needed_keys}
+use Rattle.h5w_model.specs.Tables.{InPlace, nowhere, in_array, in_tree, in_place, array_in_place, tree_in_place, address_behind, array_slot, data_slot, secondary_slot, data_block, secondary_block, super_block_of_first, in_node, key_below, key_equal, tree_lookup, chunks_across, index_key, needed, needed_keys}
 use Rattle.h5w_model.specs.Prefixed.{IsKey}
 use Rattle.h5w_model.specs.Calls.{some_unknown, address_or, each_unknown, table_from}
 use Rattle.h5w_model.specs.declared.cell.Key.{Key}
@@ -24,7 +24,6 @@ use Rattle.h5w_model.specs.declared.refusal.ReadError.TheVariants.{Damaged}
 use Rattle.h5w_model.proofs.ArrayGeometry.{slot_place-super}
 use Rattle.h5w_model.proofs.CheckedLemmas.{AllPass, checked-passed}
 use Rattle.h5w_laws.proofs.AnswerLemmas.{result_both}
-use Rattle.h5w_laws.proofs.NumberLemmas.{needed_count}
 use Rattle.h5w_headline.proofs.CountLemmas.{AtMost, AnyOf, IsAnswered, any_answered, at_most_more, at_most_then}
 
 -- ---- The array
@@ -220,14 +219,20 @@ behind_looks kind (in_tree t) key is named =
 
 -- ---- The addresses of the needed chunks
 
+-- an address and others
+and_more : (m n : ℕ) (p : Prog (Result ℕ ReadError)) (q : Prog (Result (List ℕ) ReadError)) → AtMost AnyOf m p → AtMost AnyOf n q → AtMost AnyOf (m + n) (and_then p (λ a. and_then q (λ rest. ret (Ok (a ∷ rest)))))
+and_more m n p q first rest =
+    at_most_more AnyOf (m + (n + 0)) (m + n) (and_then p (λ a. and_then q (λ rest. ret (Ok (a ∷ rest))))) (omega arith)
+    (at_most_then AnyOf m (n + 0) p (λ a. and_then q (λ rest. ret (Ok (a ∷ rest)))) (any_answered m p first)
+    (λ a any. at_most_then AnyOf n 0 q (λ rest. ret (Ok (a ∷ rest))) (any_answered n q rest) (λ rest any. tt)))
+
 one_more : (ks : List Key) (p : Prog (Result ℕ ReadError)) (q : Prog (Result (List ℕ) ReadError)) → AtMost AnyOf 19 p → AtMost AnyOf (length ks * 19) q
     → AtMost AnyOf (suc (length ks) * 19) (and_then p (λ a. and_then q (λ rest. ret (Ok (a ∷ rest)))))
 one_more ks p q first rest =
     let n : ℕ = length ks in
     let more : suc n ≡ n + 1 = omega arith in
-    at_most_more AnyOf (19 + (n * 19 + 0)) (suc n * 19) (and_then p (λ a. and_then q (λ rest. ret (Ok (a ∷ rest))))) (subst (λ m. 19 + (n * 19 + 0) ≤ m * 19) (sym more) (omega arith))
-    (at_most_then AnyOf 19 (n * 19 + 0) p (λ a. and_then q (λ rest. ret (Ok (a ∷ rest)))) (any_answered 19 p first)
-    (λ a any. at_most_then AnyOf (n * 19) 0 q (λ rest. ret (Ok (a ∷ rest))) (any_answered (n * 19) q rest) (λ rest any. tt)))
+    at_most_more AnyOf (19 + n * 19) (suc n * 19) (and_then p (λ a. and_then q (λ rest. ret (Ok (a ∷ rest))))) (subst (λ m. 19 + n * 19 ≤ m * 19) (sym more) (omega arith))
+    (and_more 19 (n * 19) p q first rest)
 
 unknown_looks : (d : Described) (b : InPlace) (known : List ℕ) (ks : List Key) → IsDecoded d.layout.index b → AllByRecursion (IsKey d.layout.index) ks
     → AtMost AnyOf (length ks * 19) (each_unknown b known ks)
@@ -240,14 +245,29 @@ unknown_looks d b (a ∷ known) (k ∷ ks) is all =
     (cond_both (a == undefined) (address_behind b k) (ret (Ok a)) (λ (p : Prog (Result ℕ ReadError)). AtMost AnyOf 19 p) (λ t. behind_looks d.layout.index b k is all.0) (λ t. tt))
     (unknown_looks d b known ks is all.1)
 
-keys_looks : (d : Described) (known : List ℕ) (ks : List Key) → AllByRecursion (IsKey d.layout.index) ks → AtMost AnyOf (21 * length ks) (table_from known d ks)
-keys_looks d known [] all = tt
-keys_looks d known (k ∷ ks) all =
-    let n : ℕ = length (k ∷ ks) in
+-- the first chunk of an array stands in the index block, and a tree has few blocks on the way to one
+first_looks : (kind : IndexKind) (b : InPlace) (key : Key) → IsDecoded kind b → (kind ≡ Array → key.i ≡ 0) → AtMost AnyOf 16 (address_behind b key)
+first_looks kind nowhere key is first = tt
+first_looks kind (in_array e) key is first = subst (λ i. AtMost AnyOf 16 (array_slot e i)) (sym (first is)) tt
+first_looks kind (in_tree t) key is first =
+    at_most_more AnyOf (4 * (t.depth + 1)) 16 (tree_lookup t.depth key t.root t.records) (omega (arith, is.0)) (lookup_looks t.depth key t.root t.records is.0 is.1)
+
+from_first : (d : Described) (b : InPlace) (known : List ℕ) (k : Key) (ks : List Key) → IsDecoded d.layout.index b → (d.layout.index ≡ Array → k.i ≡ 0) → AllByRecursion (IsKey d.layout.index) ks
+    → AtMost AnyOf (16 + length ks * 19) (each_unknown b known (k ∷ ks))
+from_first d b [] k ks is first all =
+    and_more 16 (length ks * 19) (address_behind b k) (each_unknown b [] ks) (first_looks d.layout.index b k is first) (unknown_looks d b [] ks is all)
+from_first d b (a ∷ known) k ks is first all =
+    and_more 16 (length ks * 19) (address_or b a k) (each_unknown b known ks)
+    (cond_both (a == undefined) (address_behind b k) (ret (Ok a)) (λ (p : Prog (Result ℕ ReadError)). AtMost AnyOf 16 p) (λ t. first_looks d.layout.index b k is first) (λ t. tt))
+    (unknown_looks d b known ks is all)
+
+keys_looks : (d : Described) (known : List ℕ) (k : Key) (ks : List Key) → (d.layout.index ≡ Array → k.i ≡ 0) → AllByRecursion (IsKey d.layout.index) ks → AtMost AnyOf (18 + length ks * 19) (table_from known d (k ∷ ks))
+keys_looks d known k ks first all =
+    let most : ℕ = 18 + length ks * 19 in
     let rest : InPlace → Prog (Result (List ℕ) ReadError) = λ b. each_unknown b known (k ∷ ks) in
-    cond_both (some_unknown known (k ∷ ks)) (and_then (in_place d) rest) (ret (Ok (take n known))) (λ (p : Prog (Result (List ℕ) ReadError)). AtMost AnyOf (21 * n) p)
-    (λ t. at_most_more AnyOf (2 + n * 19) (21 * n) (and_then (in_place d) rest) (omega arith)
-    (at_most_then (IsDecoded d.layout.index) 2 (n * 19) (in_place d) rest (place_looks d) (λ b is. unknown_looks d b known (k ∷ ks) is all)))
+    cond_both (some_unknown known (k ∷ ks)) (and_then (in_place d) rest) (ret (Ok (take (length (k ∷ ks)) known))) (λ (p : Prog (Result (List ℕ) ReadError)). AtMost AnyOf most p)
+    (λ t. at_most_more AnyOf (2 + (16 + length ks * 19)) most (and_then (in_place d) rest) (omega arith)
+    (at_most_then (IsDecoded d.layout.index) 2 (16 + length ks * 19) (in_place d) rest (place_looks d) (λ b is. from_first d b known k ks is first all)))
     (λ t. tt)
 
 pub grid_length : {X : Type 0} (f : ℕ → ℕ → X) (across from count : ℕ) → length (flat_map (λ i. map (f i) (range_with_len 0 across)) (range_with_len from count)) ≡ count * across
@@ -261,6 +281,19 @@ grid_length f across from (suc count) =
     ∙ ap (λ n. n + length (flat_map (λ i. map (f i) (range_with_len 0 across)) (range_with_len (from + 1) count))) l ∙ ap (λ n. across + n) rest
     ∙ (let e : across + count * across ≡ (count + 1) * across = omega arith in e) ∙ ap (λ n. n * across) (sym more)
 
-pub table_looks : (d : Described) (known : List ℕ) → AllByRecursion (IsKey d.layout.index) (needed_keys d) → AtMost AnyOf (21 * needed d) (table_from known d (needed_keys d))
-table_looks d known all =
-    subst (λ n. AtMost AnyOf (21 * n) (table_from known d (needed_keys d))) (needed_count d) (keys_looks d known (needed_keys d) all)
+-- how many keys stand side by side, of each kind of index
+abbrev keys_beside : ℕ → IndexKind → ℕ
+keys_beside across kind = elim kind as (λ _. ℕ) [ Array ↦ 1 | Tree ↦ across ]
+
+-- one look fewer than 21 for each needed chunk
+pub table_looks : (d : Described) (known : List ℕ) → AllByRecursion (IsKey d.layout.index) (needed_keys d) → AtMost AnyOf (21 * needed d - 1) (table_from known d (needed_keys d))
+table_looks d known all = go (needed d) all
+  where
+    go : (n : ℕ) → AllByRecursion (IsKey d.layout.index) (map (index_key d) (range_with_len 0 n)) → AtMost AnyOf (21 * n - 1) (table_from known d (map (index_key d) (range_with_len 0 n)))
+    go zero each = tt
+    go (suc n) each =
+        let ks = map (index_key d) (range_with_len 1 n) in
+        let count : length ks ≡ n = length-map-range_with_len (index_key d) 1 n in
+        let more : suc n ≡ n + 1 = omega arith in
+        at_most_more AnyOf (18 + length ks * 19) (21 * suc n - 1) (table_from known d (index_key d 0 ∷ ks)) (subst (λ m. 18 + length ks * 19 ≤ 21 * m - 1) (sym more) (omega (arith, count)))
+        (keys_looks d known (index_key d 0) ks (λ is. ap (λ kind. 0 / keys_beside (chunks_across d) kind) is) each.1)

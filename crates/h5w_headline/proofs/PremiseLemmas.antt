@@ -10,7 +10,7 @@ use Rattle.h5w_model.specs.Tables.{Reading, Shows, format_limits, limit_of, need
 use Rattle.h5w_model.specs.Prefixed.{image_at, IsPosition, SameDescribed, Stays, root_address, continuation_blocks}
 use Rattle.h5w_laws.proofs.ProgramLemmas.{same_visits}
 use Rattle.h5w_headline.specs.Headline.{Served, WithinFromLast}
-use Rattle.h5w_headline.specs.Bounds.{NeedsAtMost, OneLookHeaders, BoundsFromOne}
+use Rattle.h5w_headline.specs.Bounds.{NeedsAtMost, ShortHeaders, BoundsFromOne, looks_in}
 use Rattle.h5w_headline.proofs.MomentLemmas.{Moment, moment, keeps, shown_is}
 use Rattle.h5w_headline.proofs.KeyLemmas.{Sound, sound_shown}
 
@@ -79,13 +79,13 @@ looked_alike name log p q m n served =
           record { root = sym (a.root); dataset = sym (a.dataset) }
     ]
 
-headers_once : (name : List ℕ) (log : Log) (p : ℕ) (r : Reading) (v : Visit) → Served name log → IsPosition log p → Shows format_limits (image_at log p) name r
-    → visits (image_at log p) (root_header (root_address (image_at log p))) ≡ v ∷ [] → continuation_blocks (image_at log p) r ≡ [] → OneLookHeaders name log
-headers_once name log p r v served at shows one none =
+headers_once : (name : List ℕ) (log : Log) (p : ℕ) (r : Reading) → Served name log → IsPosition log p → Shows format_limits (image_at log p) name r
+    → looks_in (visits (image_at log p) (root_header (root_address (image_at log p)))) ≤ 2 → continuation_blocks (image_at log p) r ≡ [] → ShortHeaders name log
+headers_once name log p r served at shows few none =
     let m = moment name log p served at in
     let is : r ≡ m.shown = shown_is name log p m r shows in
     record {
-      root = λ q to. let a = looked_alike name log p q m (moment name log q served to) served in (v, a.root ∙ one);
+      root = λ q to. let a = looked_alike name log p q m (moment name log q served to) served in subst (λ (vs : List Visit). looks_in vs ≤ 2) (sym (a.root)) few;
       dataset = λ q s to shows_s.
           let n = moment name log q served to in
           let a = looked_alike name log p q m n served in

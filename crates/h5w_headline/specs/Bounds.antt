@@ -49,18 +49,20 @@ RefreshesInLooks = (name : List ℕ) (log : Log) (g : CallRules) (seen : ℕ) (r
     → rest_after (rows_call g) (looks_of ls) ≡ Some q → IsUnfinished q
     → length ls < g.attempts * (2 + continuation_looks (image_at log at) shown + 21 * n)
 
--- Each of the two headers is shown by one look: chunk 0 has at most 512 bytes, and there are no continuation blocks.
-pub record OneLookHeaders (name : List ℕ) (log : Log) : Type 0 where
-  pub root : (p : ℕ) → IsPosition log p → (v : Visit) × (visits (image_at log p) (root_header (root_address (image_at log p))) ≡ v ∷ [])
+-- The root header is shown by at most two looks, so in 1,024 bytes, as that of eight names of 64 bytes is. The dataset
+-- header is shown by one: its chunk 0 has at most 512 bytes, and there are no continuation blocks.
+pub record ShortHeaders (name : List ℕ) (log : Log) : Type 0 where
+  pub root : (p : ℕ) → IsPosition log p → looks_in (visits (image_at log p) (root_header (root_address (image_at log p)))) ≤ 2
   pub dataset : (p : ℕ) (r : Reading) → IsPosition log p → Shows format_limits (image_at log p) name r → continuation_blocks (image_at log p) r ≡ []
 
--- Where the headers are shown by one look each, the way takes two looks, and there are no continuation blocks.
-pub record OneLookBounds : Type 0 where
+-- Where the headers are short, the way takes three looks at most, and there are no continuation blocks. The looks of an attempt
+-- are one fewer than two and 21 for each needed chunk, which makes up for the third look of the way.
+pub record ShortBounds : Type 0 where
   pub opens : (name : List ℕ) (log : Log) (limits : Limits) (keeps attempts from n : ℕ) (ls : List Placed) (q : Prog (Result Reading ReadError))
-      → Served name log → OneLookHeaders name log → NeedsAtMost name log n → 1 ≤ attempts → IsPosition log from → IsCall log from ls
+      → Served name log → ShortHeaders name log → NeedsAtMost name log n → 1 ≤ attempts → IsPosition log from → IsCall log from ls
       → rest_after (open_call limits keeps attempts name) (looks_of ls) ≡ Some q → IsUnfinished q → length ls < 2 + attempts * (2 + 21 * n)
   pub refreshes : (name : List ℕ) (log : Log) (g : CallRules) (seen : ℕ) (r : Reading) (from n : ℕ) (ls : List Placed) (q : Prog (Result Reading ReadError))
-      → Served name log → OneLookHeaders name log → NeedsAtMost name log n → 1 ≤ g.attempts → IsPosition log from → IsCall log from ls
+      → Served name log → ShortHeaders name log → NeedsAtMost name log n → 1 ≤ g.attempts → IsPosition log from → IsCall log from ls
       → IsPosition log seen → Shows format_limits (image_at log seen) name r → g.place ≡ r.place
       → rest_after (rows_call g) (looks_of ls) ≡ Some q → IsUnfinished q → length ls < g.attempts * (2 + 21 * n)
 
@@ -75,9 +77,9 @@ ReadsInLooks = (img name : List ℕ) (r : Reading) (first count : ℕ) (ls : Lis
     → length ls < touched_chunks (cutting_of r.dataset) first (first + count) * (r.dataset.layout.chunk_rows * r.dataset.layout.chunk_cols * r.dataset.int_type.size / 512 + 1)
 
 -- The premises follow from one position each. As many chunks are needed at the last one as anywhere, and the headers are
--- shown by one look each where they are so once.
+-- short where they are so once.
 pub record BoundsFromOne : Type 0 where
   pub needs : (name : List ℕ) (log : Log) (n : ℕ) (r : Reading) → Served name log → Shows format_limits (image_at log (length (hist log.events))) name r
       → needed r.dataset ≤ n → NeedsAtMost name log n
-  pub headers : (name : List ℕ) (log : Log) (p : ℕ) (r : Reading) (v : Visit) → Served name log → IsPosition log p → Shows format_limits (image_at log p) name r
-      → visits (image_at log p) (root_header (root_address (image_at log p))) ≡ v ∷ [] → continuation_blocks (image_at log p) r ≡ [] → OneLookHeaders name log
+  pub headers : (name : List ℕ) (log : Log) (p : ℕ) (r : Reading) → Served name log → IsPosition log p → Shows format_limits (image_at log p) name r
+      → looks_in (visits (image_at log p) (root_header (root_address (image_at log p)))) ≤ 2 → continuation_blocks (image_at log p) r ≡ [] → ShortHeaders name log

@@ -1,6 +1,6 @@
 //! How many looks a call takes before its answer.
 
-ghost use Rattle.h5w_headline.specs.Bounds.{BoundsFromOne, OneLookBounds, OpensInLooks, ReadsInLooks, RefreshesInLooks};
+ghost use Rattle.h5w_headline.specs.Bounds.{BoundsFromOne, OpensInLooks, ReadsInLooks, RefreshesInLooks, ShortBounds};
 
 /// An open without an answer has taken fewer looks than those on the way to the dataset header and, an attempt, two for that
 /// header, those at its continuation blocks, and 21 for each needed chunk.
@@ -13,9 +13,10 @@ pub fn refreshes_in_looks()
     ensures { RefreshesInLooks }
 {}
 
-/// Where each header is shown by one look, the way takes two looks, and there are no continuation blocks.
-pub fn one_look_bounds()
-    ensures { OneLookBounds }
+/// Where the root header is shown by two looks and the dataset header by one, an open without an answer has taken fewer than
+/// two, and two and 21 for each needed chunk in each attempt.
+pub fn short_bounds()
+    ensures { ShortBounds }
 {}
 
 /// A read without an answer has taken fewer looks than those at all of each touched chunk, whatever it was shown.

@@ -10,7 +10,7 @@ mod known;
 mod still;
 
 pub use bounds::{
-    bounds_from_one, one_look_bounds, opens_in_looks, reads_in_looks, refreshes_in_looks,
+    bounds_from_one, opens_in_looks, reads_in_looks, refreshes_in_looks, short_bounds,
 };
 pub use examples::{during_a_flush, served_log};
 pub use headline::{

@@ -18,7 +18,8 @@ use Rattle.h5w_space.specs.Space.{Space}
 use Rattle.h5w_space.specs.declared.Full.{Full}
 use Rattle.h5w_cache.specs.Blocks.{BlockView}
 use Rattle.h5w_cache.specs.Plans as plans
-use Rattle.h5w_cache.specs.Plans.{AreMoves, IsMove, IsPlan, Placed, bytes_in, bytes_of, numbers, stays}
+use Rattle.h5w_cache.specs.Plans.{AreMoves, AreRetired, AreTaken, IsMove, IsOrder, IsPlan, Placed, bytes_in, bytes_of, numbers, stays}
+use Rattle.h5w_cache.specs.Starts.{IsBegun, Start}
 use Rattle.h5w_cache.specs.Stores.{Store, block_of, is_changed, place_of, times}
 use Rattle.h5w_cache.specs.declared.moves.Move.{Move}
 use Rattle.h5w_cache.proofs.PlannedLemmas.{same_times, times-more, times-other, times-same}
@@ -282,20 +283,34 @@ changed_by : (v : Store) (n : ℕ) → 0 < times n v.changed → is_changed v n 
 changed_by v n some = lt-ltb 0 (times n v.changed) some
 
 module _ (d : Described) (from to : ℕ) (v : Store) (a : IsArray v) (marks : ArrayMarked d from to v) where
+  order_changed : (ms : List Move) → IsOrder v.blocks v.changed (numbers ms) → (n : ℕ) → Listed n (numbers ms) → is_changed v n ≡ true
+  order_changed ms order n l = changed_by v n (omega (arith, listed_times n (numbers ms) l, same_times v.changed ms n order.all))
+
   plan_changed : (s : Space) (ms : List Move) (copies fixed : List Write) (w : Store) (t : Space) → IsPlan v s ms copies fixed w t → AreChanged v ms
-  plan_changed s ms copies fixed w t p = record { once = p.once; changed = λ n l. changed_by v n (omega (arith, listed_times n (numbers ms) l, same_times v.changed ms n p.order.all)) }
+  plan_changed s ms copies fixed w t p = record { once = p.once; changed = order_changed ms p.order }
+
+  -- all of them have their places
+  array_raised : (s : Space) (ms : List Move) (roomy t : Space) → AreChanged v ms → AreTaken v.blocks v.places s ms roomy → AreRetired roomy ms t → IsRaised s t (touched d from to * 16428)
+  array_raised s ms roomy t changed x retired =
+      let most : ℕ = touched d from to * 16428 in
+      let moved = moves_bound v a d from to marks ms changed s x.taken x.moves in
+      let still = raised_none x.taken roomy (ap (λ (u : Space). u.end) x.roomy) (ap (λ (u : Space). u.limit) x.roomy) in
+      raised_more s t (most + 0 + 0) most (omega arith) (raised_on s roomy t (most + 0) 0 (raised_on s x.taken roomy most 0 moved still) (retired_raised roomy ms t retired))
+
+  -- so it is of a plan that is begun, if no block is listed twice
+  pub array_begun : (s : Space) (b : Start) (t : Space) → ((n : ℕ) → times n v.changed ≤ 1) → IsBegun v.blocks v.places v.changed s b t → IsRaised s t (touched d from to * 16428)
+  array_begun s b t once x =
+      let changed : AreChanged v b.moves = record { once = λ n. omega (arith, once n, same_times v.changed b.moves n x.order.all); changed = order_changed b.moves x.order } in
+      array_raised s b.moves x.roomy t changed x.taken x.retired
 
   pub array_bound : (s : Space) (ms : List Move) (copies fixed : List Write) (w : Store) (t : Space) → IsPlan v s ms copies fixed w t → PlanBound d from to s copies fixed t
   array_bound s ms copies fixed w t p =
-      let most : ℕ = touched d from to * 16428 in
       let changed = plan_changed s ms copies fixed w t p in
-      let moved = moves_bound v a d from to marks ms changed s p.taken.taken p.taken.moves in
-      let roomy = raised_none p.taken.taken p.roomy (ap (λ (x : Space). x.end) p.taken.roomy) (ap (λ (x : Space). x.limit) p.taken.roomy) in
       let short : (n : ℕ) → length (bytes_in w.blocks n) ≤ 8214 = λ n. omega (arith, p.lengths n, bytes_short v a n) in
       let all = split_few w.blocks ms p.writes.split p.writes.splits.inside short in
       let few = few_moves v a d from to marks ms changed in
       record {
-        raised = raised_more s t (most + 0 + 0) most (omega arith) (raised_on s p.roomy t (most + 0) 0 (raised_on s p.taken.taken p.roomy most 0 moved roomy) (retired_raised p.roomy ms t p.retired));
+        raised = array_raised s ms p.roomy t changed p.taken p.retired;
         pieces = omega (arith, all, few, ap length p.writes.before, ap length p.writes.from);
       }
 

@@ -16,8 +16,9 @@ use Rattle.h5w_visits.proofs.IndexLaws.{index_by_end}
 use Rattle.h5w_space.specs.Space.{Space}
 use Rattle.h5w_cache.specs.Stores.{Store, place_of}
 use Rattle.h5w_cache.specs.Plans.{bytes_in}
+use Rattle.h5w_laws.proofs.EndLemmas.{same_ranges}
 use Rattle.h5w_steps.specs.Moments.{Moment, Represents}
-use Rattle.h5w_array_laws.proofs.FileLemmas.{same_found, same_place, some_end}
+use Rattle.h5w_array_laws.proofs.FileLemmas.{same_place, some_end}
 use Rattle.h5w_array_laws.specs.ArrayImages.{StandsArray}
 use Rattle.h5w_array_laws.proofs.StandLemmas.{array_stays}
 use Rattle.h5w_array_flushes.specs.ArrayBegins as arrays
@@ -64,7 +65,7 @@ module _ (img name : List ℕ) (m : Moment) (s : Space) (p : ℕ) (v : Index) (i
       let wide = index_by_end img m.super.end end m.dataset m.fixed m.behind i (ends_later m.super.end end (m.fixed ++ m.behind) (omega arith) i.ends) in
       let wide_blocks : wide.blocks ≡ blocks = same_place wide.blocks blocks (sym wide.read ∙ says.says) in
       let given : eval img (behind_visit end (chunk_bytes m.dataset) blocks) ≡ Ok m.behind = subst (λ (b : InPlace). eval img (behind_visit end (chunk_bytes m.dataset) b) ≡ Ok m.behind) wide_blocks wide.stands in
-      same_found m.behind us (sym given ∙ reads.visited (stands.header clean).total end (chunk_bytes m.dataset) (ends_later far.0 end us (omega arith) far.1))
+      same_ranges m.behind us (sym given ∙ reads.visited (stands.header clean).total end (chunk_bytes m.dataset) (ends_later far.0 end us (omega arith) far.1))
 
   known : KnownHeld img name m (λ key. address_of v key) s m.behind
   known = begin_knows img name m (λ key. address_of v key) s file (record { blocks = blocks; read = says.says; answers = λ key named. reads.found (stands.header clean).total key }) begun (λ u. absurd (is.defined (sym address ∙ u)))

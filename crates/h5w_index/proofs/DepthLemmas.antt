@@ -7,10 +7,10 @@ use Rattle.h5w_model.specs.declared.piece.Write.{Write}
 use Rattle.h5w_space.specs.Space.{Space}
 use Rattle.h5w_cache.specs.declared.moves.Move.{Move}
 use Rattle.h5w_bt.specs.declared.records.Record.{Record}
+use Rattle.h5w_bt.proofs.KeyLemmas.{equal-is}
 use Rattle.h5w_bt_nodes.specs.Nodes.{address_in}
 use Rattle.h5w_bt_index.specs.Index.{Index, IsFilled, IsIndex, IsThere, inserted, no_tree, records}
 use Rattle.h5w_bt_index.specs.Plans.{news, planned as planned_tree}
-use Rattle.h5w_bt_index.proofs.Keys.{equal-is}
 use Rattle.h5w_bt_index.proofs.Laws.{inserted-records}
 use Rattle.h5w_bt_index.proofs.Placed.{planned_shares}
 use Rattle.h5w_bt_index.proofs.Rising.{put-finds_other}

@@ -27,7 +27,7 @@ use Rattle.h5w_array_laws.specs.Parts.{Part, IsPart, header, index_block, length
 use Rattle.h5w_model.specs.Arrays.{eahd_len, eaib_len}
 use Rattle.h5w_model.specs.Tables.{in_leaf}
 use Rattle.h5w_model.specs.Trees.{bthd_bytes}
-use Rattle.h5w_array_flushes.specs.ArrayFlushes.{ArrayRests, IsArrayPart, chunks_for}
+use Rattle.h5w_array_flushes.specs.ArrayFlushes.{ArrayRests, IsArrayPart}
 use Rattle.h5w_array_flushes.proofs.ArrayLaws.{array_is_flush}
 use Rattle.h5w_array_flushes.proofs.ArrayRestLemmas.{array_rests_then, standing_freed}
 use Rattle.h5w_flush_laws.specs.Spaces.{Taken, extent_of}
@@ -36,6 +36,7 @@ use Rattle.h5w_flush_laws.specs.Parts.{IsFlush, block_writes, flushed_to, pieces
 use Rattle.h5w_flush_laws.specs.Rows.{ArePlaced}
 use Rattle.h5w_bt.specs.declared.records.Record.{Record}
 use Rattle.h5w_bt.specs.Parts.{record_of}
+use Rattle.h5w_flush_laws.specs.Chunks.{chunks_for}
 use Rattle.h5w_bt_index.specs.Marks.{clean_of}
 use Rattle.h5w_bt_index.specs.Index.{Index, IsIndex}
 use Rattle.h5w_bt_index.proofs.Placed.{placed_clean, planned_index}

@@ -10,20 +10,23 @@ use Rattle.h5w_model.specs.declared.cell.Key.{Key}
 use Rattle.h5w_cache.specs.Stores.{Store, is_changed, is_listed, times}
 use Rattle.h5w_cache.proofs.PlannedLemmas.{times-other, times-same}
 use Rattle.h5w_chunks.specs.Shares.{touched, touched_key}
+use Rattle.h5w_space.specs.Space.{Space}
 use Rattle.h5w_array_laws.specs.Parts.{header, holder, index_block, number_of, parent}
 use Rattle.h5w_ea_index.specs.Steps.{IsSlotOrHeader, OnWay, Touches}
 use Rattle.h5w_bt.specs.declared.records.Record.{Record}
 use Rattle.h5w_bt_index.specs.Marks.{clean_of}
 use Rattle.h5w_bt_index.specs.Index.{Index, IsIndex, inserted}
-use Rattle.h5w_bt_index.proofs.Replaced.{clean_stood}
+use Rattle.h5w_bt_index.proofs.Placed.{clean_stood}
 use Rattle.h5w_tree_index_laws.specs.TreeMarks.{HasChanged}
 use Rattle.h5w_tree_index_laws.proofs.TreeChangeLemmas.{inserted_changes}
 use Rattle.h5w_tree_index_laws.proofs.TreeMarkLemmas.{inserted_marks}
 use Rattle.h5w_index.specs.Views.{IndexView, an_array, a_tree, IsClean, IsSound}
-use Rattle.h5w_index.specs.Steps.{IsHeld, IsSet, IsUnset, TreeHeld, TreeSet, blank}
-use Rattle.h5w_index.specs.Marks.{ArrayMarked, FullBounds, IsMarked, IsTouched, MarkLaws, PlanBounds, TreeMarked}
-use Rattle.h5w_index.proofs.ArrayBoundLemmas.{array_bound, array_full}
-use Rattle.h5w_index.proofs.TreeBoundLemmas.{tree_bound, tree_full}
+use Rattle.h5w_index.specs.Steps.{IsBegun, IsHeld, IsSet, IsUnset, ListsOnce, TreeHeld, TreeSet, blank}
+use Rattle.h5w_index.specs.declared.begun.Begun.{Begun}
+use Rattle.h5w_index.specs.declared.begun.Begun.TheVariants.{Array, Tree}
+use Rattle.h5w_index.specs.Marks.{ArrayMarked, FullBounds, IsMarked, IsRaised, IsTouched, MarkLaws, PlanBounds, TreeMarked}
+use Rattle.h5w_index.proofs.ArrayBoundLemmas.{array_begun, array_bound, array_full}
+use Rattle.h5w_index.proofs.TreeBoundLemmas.{tree_begun, tree_bound, tree_full}
 
 -- ---- Where more rows wait
 
@@ -186,6 +189,13 @@ plan_bounds d from to (an_array v) s ms copies fixed (an_array w) t is m plan = 
 plan_bounds d from to (a_tree p v) s ms copies fixed (a_tree q w) t is m plan = tree_bound d from to p v is.index m s ms copies fixed w t plan.1
 plan_bounds d from to (an_array v) s ms copies fixed (a_tree q w) t is m plan = absurd plan
 plan_bounds d from to (a_tree p v) s ms copies fixed (an_array w) t is m plan = absurd plan
+
+-- a plan that is begun raises the end by no more
+pub begun_bound : (d : Described) (from to : ℕ) (v : IndexView) (s : Space) (b : Begun) (t : Space) → IsSound v → IsMarked d from to v → ListsOnce v → IsBegun v s b t → IsRaised s t (touched d from to * 16428)
+begun_bound d from to (an_array v) s (Array b) t is m once x = array_begun d from to v is m s b t once x
+begun_bound d from to (a_tree p v) s (Tree b) t is m once x = tree_begun d from to p v is.index m s b t x
+begun_bound d from to (an_array v) s (Tree b) t is m once x = absurd x
+begun_bound d from to (a_tree p v) s (Array b) t is m once x = absurd x
 
 pub full_bounds : FullBounds
 full_bounds d from to (an_array v) s e is m none = array_full d from to v is m s e none

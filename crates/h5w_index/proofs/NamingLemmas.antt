@@ -13,10 +13,10 @@ use Rattle.h5w_space.specs.Space.{Space}
 use Rattle.h5w_chunks.specs.Shares.{touched, touched_band, touched_key}
 use Rattle.h5w_chunks.proofs.KeyLemmas.{touched_lines}
 use Rattle.h5w_chunks.specs.declared.grid.ChunkPlace.{ChunkPlace}
+use Rattle.h5w_steps.proofs.PartLemmas.{count_joined}
 use Rattle.h5w_array_laws.specs.Among.{AreAmong}
 use Rattle.h5w_array_laws.proofs.AmongLemmas.{part_itself, part_joined, part_onward}
 use Rattle.h5w_flush_laws.specs.Rows.{IsPlaced, new_chunks}
-use Rattle.h5w_flush_laws.proofs.PartLemmas.{count_append}
 use Rattle.h5w_tree_index_laws.specs.TreeImages.{AreSame}
 use Rattle.h5w_tree_index_laws.proofs.TreeRangeLemmas.{by_weight}
 use Rattle.h5w_index.specs.Views.{IndexView, HasSlot, IsReached, IsSound, address_in, behind_of, is_key}
@@ -34,7 +34,7 @@ use Rattle.h5w_index.proofs.ToldLemmas.{held_tells, same_ranges, set_tells}
 
 -- one range in front of others, and between them
 turn : (c : Used) (us vs : List Used) → AreAmong (c ∷ (us ++ vs)) ((us ++ c ∷ []) ++ vs)
-turn c us vs = record { among = there; counts = λ q. omega (arith, count_append q us vs, count_append q (us ++ c ∷ []) vs, count_append q us (c ∷ [])) }
+turn c us vs = record { among = there; counts = λ q. omega (arith, count_joined q us vs, count_joined q (us ++ c ∷ []) vs, count_joined q us (c ∷ [])) }
   where
     there : (u : Used) → (c ≡ u) ⊎ Among u (us ++ vs) → Among u ((us ++ c ∷ []) ++ vs)
     there u (inl e) = among_left u (us ++ c ∷ []) vs (among_right u us (c ∷ []) (inl e))

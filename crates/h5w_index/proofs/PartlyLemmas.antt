@@ -12,10 +12,10 @@ use Rattle.h5w_space.specs.Space.{Space}
 use Rattle.h5w_cache.specs.declared.moves.Move.{Move}
 use Rattle.h5w_chunks.specs.Shares.{touched_key}
 use Rattle.h5w_chunks.proofs.KeyLemmas.{array_key, touched_once}
+use Rattle.h5w_bt.proofs.KeyLemmas.{equal-is, equal-self}
 use Rattle.h5w_array_laws.specs.ArrayStores as arrays
 use Rattle.h5w_array_laws.proofs.NumberedLemmas.{plans_numbers}
 use Rattle.h5w_bt_index.specs.Index.{address_of}
-use Rattle.h5w_bt_index.proofs.Keys.{equal-is, equal-self}
 use Rattle.h5w_index.specs.Views.{IndexView, an_array, a_tree, HasSlot, IsReached, IsSound, address_in, is_key}
 use Rattle.h5w_index.specs.Steps.{IsHeld, IsPlan, IsSet, IsUnset}
 use Rattle.h5w_index.specs.Told.{IsLike}

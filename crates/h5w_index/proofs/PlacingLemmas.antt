@@ -21,14 +21,15 @@ use Rattle.h5w_chunks.specs.declared.grid.ChunkPlace.{ChunkPlace}
 use Rattle.h5w_header_laws.specs.Files.{with_rows}
 use Rattle.h5w_flush_laws.proofs.NewChunkLemmas.{same_len}
 use Rattle.h5w_index.specs.Views.{IndexView, HasSlot, IsReached, IsSound, address_in, is_key}
-use Rattle.h5w_index.specs.Steps.{IsHeld, IsPlan, IsSet}
+use Rattle.h5w_index.specs.Steps.{IsBegun, IsHeld, IsPlan, IsSet, ListsOnce}
+use Rattle.h5w_index.specs.declared.begun.Begun.{Begun}
 use Rattle.h5w_index.specs.Told.{SameMap}
 use Rattle.h5w_index.specs.Marks.{IsMarked, IsRaised, IsTouched}
 use Rattle.h5w_index.specs.Placing.{AllPlaced, AreInside, Fits, IsPlacing, next_key}
 use Rattle.h5w_index.specs.Naming.{AreNamed, AreTakenBehind}
 use Rattle.h5w_index.specs.Full.{FullPartBound, IsFullPart, most_of}
 use Rattle.h5w_index.specs.PlacingLaws.{PlacingLaws}
-use Rattle.h5w_index.proofs.MarkLemmas.{full_bounds, plan_bounds}
+use Rattle.h5w_index.proofs.MarkLemmas.{begun_bound, full_bounds, plan_bounds}
 use Rattle.h5w_index.proofs.NamingLemmas.{all_named, named_before, named_held, named_new, named_none, named_of, named_stored, placing, taken_of}
 use Rattle.h5w_index.proofs.BehindLemmas.{get_joined, taken_new, taken_none, taken_stored}
 use Rattle.h5w_index.proofs.PartlyLemmas.{partly_held, partly_unset, same_address}
@@ -168,14 +169,23 @@ behind_raised d old early s t chunks n few x =
     let long : length chunks ≡ length early + length x.later = ap length x.all ∙ length-append early x.later in
     raised_more s t (length x.later * bytes) (n * bytes) (mul-le (length x.later) bytes n bytes (omega (arith, long, few)) (omega arith)) x.raised
 
+-- all chunks, and the blocks behind them
+with_blocks : (d : Described) (to : ℕ) (old : Key → ℕ) (early : List ChunkPlace) (s between t : Space) (chunks : List ChunkPlace) → length chunks ≡ touched d d.shape.rows to → AreTakenBehind d old early s chunks between
+    → IsRaised between t (touched d d.shape.rows to * 16428) → IsRaised s t (most_of d to)
+with_blocks d to old early s between t chunks all x blocks =
+    let n : ℕ = touched d d.shape.rows to in
+    let bytes : ℕ = chunk_bytes d in
+    raised_more s t (n * bytes + n * 16428) (most_of d to) (omega (arith, most_is n bytes)) (raised_on s between t (n * bytes) (n * 16428) (behind_raised d old early s between chunks n (omega (arith, all)) x) blocks)
+
 all_raised : (d : Described) (to : ℕ) (v held w : IndexView) (s between t : Space) (early chunks : List ChunkPlace) (added : List Key) (ms : List Move) (copies fixed : List Write) → length chunks ≡ touched d d.shape.rows to
     → IsMarked d d.shape.rows to v → AreNamed d to v chunks added held → AreTakenBehind d (address_in v) early s chunks between → IsPlan held between ms copies fixed w t → IsRaised s t (most_of d to)
 all_raised d to v held w s between t early chunks added ms copies fixed all marks x y plan =
-    let n : ℕ = touched d d.shape.rows to in
-    let bytes : ℕ = chunk_bytes d in
-    let bound = plan_bounds d d.shape.rows to held between ms copies fixed w t x.partly.like.sound (x.partly.marks marks) plan in
-    let first : IsRaised s between (n * bytes) = behind_raised d (address_in v) early s between chunks n (omega (arith, all)) y in
-    raised_more s t (n * bytes + n * 16428) (most_of d to) (omega (arith, most_is n bytes)) (raised_on s between t (n * bytes) (n * 16428) first bound.raised)
+    with_blocks d to (address_in v) early s between t chunks all y (plan_bounds d d.shape.rows to held between ms copies fixed w t x.partly.like.sound (x.partly.marks marks) plan).raised
+
+begun_raised : (d : Described) (to : ℕ) (v held : IndexView) (s between t : Space) (early chunks : List ChunkPlace) (added : List Key) (b : Begun) → length chunks ≡ touched d d.shape.rows to → IsMarked d d.shape.rows to v
+    → AreNamed d to v chunks added held → AreTakenBehind d (address_in v) early s chunks between → ListsOnce held → IsBegun held between b t → IsRaised s t (most_of d to)
+begun_raised d to v held s between t early chunks added b all marks x y once begun =
+    with_blocks d to (address_in v) early s between t chunks all y (begun_bound d d.shape.rows to held between b t x.partly.like.sound (x.partly.marks marks) once begun)
 
 full_part : (d : Described) (to : ℕ) (v : IndexView) (early : List ChunkPlace) (s : Space) (full : Full) → 0 < chunk_len d → 0 < touched d d.shape.rows to → IsMarked d d.shape.rows to v → IsFullPart d to v early s full → FullPartBound d to s full
 full_part d to v early s full some any marks (inl chunk) =
@@ -195,10 +205,9 @@ full_part d to v early s full some any marks (inr block) =
     let bytes : ℕ = chunk_bytes d in
     let x = block.named in
     let bound = full_bounds d d.shape.rows to block.held block.between full x.partly.like.sound (x.partly.marks marks) block.refused in
-    let first : IsRaised s block.between (n * bytes) = behind_raised d (address_in v) early s block.between block.chunks n (omega (arith, block.all)) block.taken in
     record {
       before = bound.before;
-      raised = raised_more s bound.before (n * bytes + n * 16428) (most_of d to) (omega (arith, most_is n bytes)) (raised_on s block.between bound.before (n * bytes) (n * 16428) first bound.raised);
+      raised = with_blocks d to (address_in v) early s block.between bound.before block.chunks block.all block.taken bound.raised;
       size = bound.size;
       some = bound.some;
       few = omega (arith, bound.few, most_is n bytes, any);
@@ -219,5 +228,6 @@ placing_laws = record {
   inside_behind = inside_behind;
   carried = carried_inside;
   raised = all_raised;
+  begun = begun_raised;
   full = full_part;
 }

@@ -12,12 +12,13 @@ use Rattle.h5w_model.proofs.ImageLemmas.{length-pieces}
 use Rattle.h5w_chunks.specs.Shares.{touched}
 use Rattle.h5w_space.specs.Space.{Space}
 use Rattle.h5w_space.specs.declared.Full.{Full}
+use Rattle.h5w_cache.specs.Plans.{AreRetired}
 use Rattle.h5w_cache.specs.declared.moves.Move.{Move}
 use Rattle.h5w_flush_laws.specs.Parts.{block_ranges, block_writes}
 use Rattle.h5w_bt_index.specs.Marks.{clean_of}
 use Rattle.h5w_bt_index.specs.Index.{Index, IsIndex}
 use Rattle.h5w_bt_nodes.specs.Blocks.{changes, written}
-use Rattle.h5w_bt_index.specs.Plans.{AreNodeMoves, HasNoPlace, IsTreePlan, header_of, header_writes, news}
+use Rattle.h5w_bt_index.specs.Plans.{AreNodeMoves, AreTaken, HasNoPlace, IsBegun, IsTreePlan, Start, header_of, header_writes, news}
 use Rattle.h5w_tree_index_laws.specs.TreeFlushes.{fresh}
 use Rattle.h5w_tree_index_laws.proofs.TreeLaws.{copies_are}
 use Rattle.h5w_index.specs.Marks.{FullBound, IsRaised, PlanBound, TreeMarked}
@@ -60,20 +61,32 @@ module _ (d : Described) (from to p : ℕ) (v : Index) (i : IsIndex v) (m : Tree
   few_nodes : changes v.depth v.root ≤ 7 * touched d from to
   few_nodes = omega (arith, m.few, few_below m.numbers (touched d from to) m.once m.inside)
 
+  -- so many nodes have a move
+  few_moves : (s : Space) (ms : List Move) (roomy : Space) → AreTaken v s ms roomy → length ms ≤ 7 * touched d from to
+  few_moves s ms roomy x =
+      let count : length ms ≡ changes v.depth v.root = sym (length-map ms (λ (m : Move). m.old)) ∙ ap length x.old in
+      omega (arith, count, few_nodes)
+
+  -- all of them have their places
+  tree_raised : (s : Space) (ms : List Move) (roomy t : Space) → AreTaken v s ms roomy → AreRetired roomy ms t → IsRaised s t (touched d from to * 16428)
+  tree_raised s ms roomy t x retired =
+      let moved = nodes_raised s ms x.taken x.moves in
+      let still = raised_none x.taken roomy (ap (λ (u : Space). u.end) x.roomy) (ap (λ (u : Space). u.limit) x.roomy) in
+      let both = raised_on s x.taken roomy (length ms * 2048) 0 moved still in
+      raised_more s t (length ms * 2048 + 0 + 0) (touched d from to * 16428) (omega (arith, few_moves s ms roomy x)) (raised_on s roomy t (length ms * 2048 + 0) 0 both (retired_raised roomy ms t retired))
+
+  -- so it is of a plan that is begun
+  pub tree_begun : (s : Space) (b : Start) (t : Space) → IsBegun p v s b t → IsRaised s t (touched d from to * 16428)
+  tree_begun s b t x = tree_raised s b.moves x.roomy t x.taken x.retired
+
   pub tree_bound : (s : Space) (ms : List Move) (copies fixed : List Write) (w : Index) (t : Space) → IsTreePlan p v s ms copies fixed w t → PlanBound d from to s copies fixed t
   tree_bound s ms copies fixed w t plan =
-      let n : ℕ = touched d from to in
-      let count : length ms ≡ changes v.depth v.root = sym (length-map ms (λ (m : Move). m.old)) ∙ ap length plan.taken.old in
-      let moved = nodes_raised s ms plan.taken.taken plan.taken.moves in
-      let roomy = raised_none plan.taken.taken plan.roomy (ap (λ (x : Space). x.end) plan.taken.roomy) (ap (λ (x : Space). x.limit) plan.taken.roomy) in
-      let both = raised_on s plan.taken.taken plan.roomy (length ms * 2048) 0 moved roomy in
-      let all = raised_on s plan.roomy t (length ms * 2048 + 0) 0 both (retired_raised plan.roomy ms t plan.retired) in
       let ranges = copies_are v ms (written v.depth (news ms) v.root) i plan.taken.old refl in
       let copied : length copies ≤ length ms * 4 = omega (arith, node_pieces (written v.depth (news ms) v.root) ms ranges, ap length plan.copies) in
       let head : length fixed ≤ 1 = omega (arith, header_few p v w, ap length plan.in_place) in
       record {
-        raised = raised_more s t (length ms * 2048 + 0 + 0) (n * 16428) (omega (arith, count, few_nodes)) all;
-        pieces = omega (arith, copied, head, count, few_nodes);
+        raised = tree_raised s ms plan.roomy t plan.taken plan.retired;
+        pieces = omega (arith, copied, head, few_moves s ms plan.roomy plan.taken);
       }
 
   -- the first node in turn that has no place

@@ -14,12 +14,12 @@ use Rattle.h5w_cache.specs.declared.moves.Move.{Move}
 use Rattle.h5w_steps.specs.Moments.{Moment, Represents}
 use Rattle.h5w_array_laws.specs.Among.{AreAmong}
 use Rattle.h5w_array_laws.specs.ArrayPlans as arrays
-use Rattle.h5w_array_flushes.specs.ArrayFlushes.{AreChunks, chunks_for}
 use Rattle.h5w_flush_laws.specs.Spaces.{Taken}
 use Rattle.h5w_flush_laws.specs.Knowledge.{HeldMissed, Knows}
 use Rattle.h5w_flush_laws.specs.Flushes.{IsBegun}
 use Rattle.h5w_flush_laws.specs.Parts.{Parts, AreEnded, IsFlush, block_ranges, block_writes, flushed_to, pieces_of}
 use Rattle.h5w_flush_laws.specs.Rows.{ArePlaced}
+use Rattle.h5w_flush_laws.specs.Chunks.{AreChunks, chunks_for}
 use Rattle.h5w_bt_nodes.specs.Blocks.{written}
 use Rattle.h5w_bt_index.specs.Plans.{news}
 use Rattle.h5w_tree_index_laws.specs.TreeImages.{AreSame}

@@ -18,10 +18,10 @@ use Rattle.h5w_chunks.specs.declared.grid.ChunkPlace.{ChunkPlace}
 use Rattle.h5w_array_laws.specs.Among.{AreAmong}
 use Rattle.h5w_array_laws.specs.ArrayStores.{IsHeaded, IsNumbered}
 use Rattle.h5w_steps.specs.Moments.{Moment}
-use Rattle.h5w_array_flushes.specs.ArrayFlushes.{chunks_for}
 use Rattle.h5w_flush_laws.specs.Parts.{block_writes}
 use Rattle.h5w_flush_laws.specs.Spaces.{Taken}
 use Rattle.h5w_flush_laws.specs.Rows.{IsOutside, IsPlaced, new_chunks}
+use Rattle.h5w_flush_laws.specs.Chunks.{chunks_for}
 use Rattle.h5w_index.specs.Views.{IndexView, an_array, a_tree, HasSlot, IsReached, IsSound, KeepsReach, address_in, behind_of, is_key, kind_of}
 use Rattle.h5w_index.specs.Steps.{IsHeld, IsPlan, IsSet, IsUnset}
 use Rattle.h5w_index.specs.Told.{HeldTold, IsLike}

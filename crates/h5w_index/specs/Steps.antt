@@ -119,6 +119,11 @@ WasBegun (a_tree p v) (Tree b) = nodes.WasBegun p v b
 WasBegun (an_array v) (Tree b) = ⊥
 WasBegun (a_tree p v) (Array b) = ⊥
 
+-- no block of an array is listed twice among those that changed; a tree marks its nodes
+abbrev pub ListsOnce : IndexView → Type 0
+ListsOnce (an_array v) = (n : ℕ) → times n v.changed ≤ 1
+ListsOnce (a_tree p v) = Unit {0}
+
 -- the places of some blocks were taken, and none that a block had is retired
 abbrev pub TookSome : IndexView → Space → Space → Type 0
 TookSome (an_array v) s t = block_plans.TookSome v.blocks v.places s t

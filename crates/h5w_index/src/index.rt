@@ -9,7 +9,7 @@ ghost use Rattle.h5w_bt_index.specs.Index.{IsIndex, KeepsShares, no_tree};
 ghost use Rattle.h5w_index.specs.Held.{view_of};
 ghost use Rattle.h5w_index.specs.Views.{HasSlot, IsClean, IsReached, IsSound, TakesKey, a_tree, address_in, an_array};
 ghost use Rattle.h5w_ea_index.specs.Steps.{found};
-ghost use Rattle.h5w_index.specs.Steps.{HasNoPlace, IsBegun, IsDeep, IsHeld, IsPlan, IsSet, IsUnset, TookSome, WasBegun, copy_pieces, in_place_pieces, moves_of};
+ghost use Rattle.h5w_index.specs.Steps.{HasNoPlace, IsBegun, IsDeep, IsHeld, IsPlan, IsSet, IsUnset, ListsOnce, TookSome, WasBegun, copy_pieces, in_place_pieces, moves_of};
 
 use crate::begun::Begun;
 use h5w_bt_index::{InsertError, Key, TreeIndex};
@@ -169,6 +169,8 @@ impl Index {
         ensures full { IfErr result (λ e. IfFull e (HasNoPlace (view_of self.now) places.old)) }
         // some blocks have their places then, and none is retired
         ensures left { OnErr result (TookSome (view_of self.now) places.old places.new) }
+        // no block is listed twice
+        ensures once { ListsOnce (view_of self.now) }
     {
         match self {
             Index::Array(index) => Ok(Begun::Array(index.begin(places)?)),

@@ -19,7 +19,7 @@ use Rattle.h5w_laws.proofs.LoweringLemmas.{lowered_is}
 use Rattle.h5w_headline.proofs.BlockLemmas.{onward}
 use Rattle.h5w_headline.proofs.AttemptLemmas.{unless_cut, ends_with}
 use Rattle.h5w_headline.proofs.KeyLemmas.{keys_named}
-use Rattle.h5w_headline.proofs.CountLemmas.{AtMost, AnyOf, IsAnswered, any_answered}
+use Rattle.h5w_headline.proofs.CountLemmas.{AtMost, AnyOf, IsAnswered, any_answered, at_most_more}
 use Rattle.h5w_headline.proofs.DescentLemmas.{table_looks}
 use Rattle.h5w_headline.proofs.EndLemmas.{completed, plain_rows, plain_open}
 use Rattle.h5w_polling.specs.Attempts.{AreLimits, looked_up, LooksBehind, AttemptTakes, AttemptsTake, RowsTake, PlaceTakes, OpenTakes, LooksOfAttempts}
@@ -43,7 +43,7 @@ table_few : (limits : Limits) (known : List ℕ) (d : Described) (many : Bool) �
 table_few limits known d true e h = tt
 table_few limits known d false e h =
     let few : needed d ≤ limit_of limits d.layout.index = ltb-false (limit_of limits d.layout.index) (needed d) e in
-    table_looks d known (keys_named d (le-ltb (limit_of format_limits d.layout.index) (needed d) (omega (arith, limit_few limits d.layout.index h))))
+    at_most_more AnyOf (21 * needed d - 1) (21 * needed d) (table_from known d (needed_keys d)) (omega arith) (table_looks d known (keys_named d (le-ltb (limit_of format_limits d.layout.index) (needed d) (omega (arith, limit_few limits d.layout.index h)))))
 
 abbrev pub described_with : CallRules → Described → Prog (Result Reading ReadError)
 described_with g d =

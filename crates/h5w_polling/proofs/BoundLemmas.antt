@@ -17,7 +17,7 @@ use Rattle.h5w_laws.proofs.LogLemmas.{flushed_laws, div_rises}
 use Rattle.h5w_headline.specs.Bounds.{NeedsAtMost, IsUnfinished, cutting_of}
 use Rattle.h5w_headline.proofs.MomentLemmas.{moment, shown_is}
 use Rattle.h5w_headline.proofs.KeyLemmas.{Sound, sound_shown}
-use Rattle.h5w_headline.proofs.BoundLemmas.{one_look_bounds}
+use Rattle.h5w_headline.proofs.BoundLemmas.{short_bounds}
 use Rattle.h5w_headline.proofs.ReadLooks.{reads_in_looks}
 use Rattle.h5w_polling.specs.Polling.{Polling, reader_rules, now, ShownAt, Knows}
 use Rattle.h5w_polling.specs.Premises.{IsCut, LogHolds}
@@ -64,12 +64,12 @@ most_rows_looks g log = 2 + g.attempts * (2 + 21 * needed_chunks g.cutting (rows
 pub rows_fewer : (g : Polling) (log : Log) (from : ℕ) (known : Option Reading) (ls : List Placed) (q : Prog (Result Reading ReadError)) → LogHolds g log → log.first ≤ from → from ≤ now log
     → Knows g log from known → IsCall log from ls → rest_after (rows_program (reader_rules g) known) (looks_of ls) ≡ Some q → WantsMore q → length ls < most_rows_looks g.rules log
 rows_fewer g log from None ls q holds first within knows call is wants =
-    one_look_bounds.opens g.name log g.limits g.keeps g.rules.attempts from (needed_chunks g.rules.cutting (rows_in g.rules (appended log))) ls q holds.served holds.headers (needs_at_most g log holds)
+    short_bounds.opens g.name log g.limits g.keeps g.rules.attempts from (needed_chunks g.rules.cutting (rows_in g.rules (appended log))) ls q holds.served holds.headers (needs_at_most g log holds)
     holds.some_attempts (record { begun = first; reached = within }) call is (wants_unfinished q wants)
 rows_fewer g log from (Some r) ls q holds first within knows call is wants =
     let n : ℕ = needed_chunks g.rules.cutting (rows_in g.rules (appended log)) in
     let fewer : length ls < g.rules.attempts * (2 + 21 * n) =
-    one_look_bounds.refreshes g.name log (refresh_rules (reader_rules g) r) knows.position r from n ls q holds.served holds.headers
+    short_bounds.refreshes g.name log (refresh_rules (reader_rules g) r) knows.position r from n ls q holds.served holds.headers
     (needs_at_most g log holds) holds.some_attempts (record { begun = first; reached = within }) call knows.shown.position knows.shown.shows refl is (wants_unfinished q wants) in
     omega (arith, fewer)
 

@@ -27,9 +27,6 @@ one_more s c j =
     let next : suc j ≡ j + 1 = omega arith in
     λ i. record c { looks = more i; at_looks = replicate (next i) s.flushed ++ c.at_looks }
 
-first_more : (s : ScriptState) (c : Calling) → looked s c 0 ≡ c
-first_more s c = let same : c.looks + 0 ≡ c.looks = omega arith in λ i. record c { looks = same i; at_looks = c.at_looks }
-
 -- the state after a line of looks of a reader
 abbrev next_by : ScriptState → ℕ → ℕ → Reply → Option ReaderState → ScriptState
 next_by s r k reply o = elim o as (λ _. ScriptState) [ None ↦ s | Some x ↦ with_reader s r (after_looks s k x reply) ]

@@ -6,7 +6,7 @@ use Rattle.h5w_model.specs.Tables.{Reading, Shows, format_limits, needed}
 use Rattle.h5w_model.specs.Prefixed.{image_at, IsPosition}
 use Rattle.h5w_model.specs.Lawful.{ScriptState}
 use Rattle.h5w_headline.specs.Headline.{Served, WithinLimits}
-use Rattle.h5w_headline.specs.Bounds.{OneLookHeaders}
+use Rattle.h5w_headline.specs.Bounds.{ShortHeaders}
 use Rattle.h5w_polling.specs.Polling.{Polling}
 
 -- ---- The log
@@ -18,12 +18,12 @@ pub record IsCut (c : Cutting) (r : Reading) : Type 0 where
   pub value_size : r.dataset.int_type.size ≡ c.value_size
   pub addressed : (k : ℕ) → k < needed r.dataset → get_or r.table k undefined ≢ undefined
 
--- Readers can rest on it, and each position shows what they read: no more chunks than their limits, headers of one look, and
--- a dataset that is cut as the script says, with at least one column. A call has at least one attempt.
+-- Readers can rest on it, and each position shows what they read: no more chunks than their limits, short headers, and a
+-- dataset that is cut as the script says, with at least one column. A call has at least one attempt.
 pub record LogHolds (g : Polling) (log : Log) : Type 0 where
   pub served : Served g.name log
   pub within : WithinLimits g.limits g.name log
-  pub headers : OneLookHeaders g.name log
+  pub headers : ShortHeaders g.name log
   pub cut : (p : ℕ) (r : Reading) → IsPosition log p → Shows format_limits (image_at log p) g.name r → IsCut g.rules.cutting r
   pub columns : log.columns ≡ g.rules.cutting.columns
   pub some_columns : 1 ≤ g.rules.cutting.columns

@@ -1,10 +1,7 @@
 -- A session that creates its file: it stands for the log without events, and each of its pieces brings it nearer to a file.
 use Rattle.std.proofs.Common.{◌≡◌, ◌≢◌, ℕ, ◌+◌, ◌-◌, ◌*◌, ◌/◌, ◌<◌, ◌≤◌, ◌==◌, Bool, true, false, List, [], ◌∷◌, ◌++◌, length, ℤ, refl, sym, ap, ◌∙◌, subst, inl, inr, arith, length-append, append_assoc}
 use Rattle.std.proofs.lemmas.Bool.{le-ltb, ne_eqb}
-use Rattle.std.proofs.lemmas.List.{nil_from_length}
 use Rattle.std.proofs.lemmas.Nat.{div-mul-add}
-use Rattle.std.specs.List.Sorted.{IsPermutation}
-use Rattle.std.proofs.lemmas.List.Sorted.{length_permutation}
 use Rattle.h5w_model.specs.Numbers.{undefined}
 use Rattle.h5w_model.specs.Images.{image}
 use Rattle.h5w_model.specs.Logs.{Log, Happening, appends, plans, shows, hist, shown, appended, appended_in, flushed, flushed_in, flushed_rows, rows_in, and_now}
@@ -14,8 +11,6 @@ use Rattle.h5w_model.specs.declared.piece.Write.{Write}
 use Rattle.h5w_laws.proofs.LogLemmas.{length_hist}
 use Rattle.h5w_types.specs.Runs.{run_bytes}
 use Rattle.h5w_chunks.specs.Grids.{cells_of}
-use Rattle.h5w_space.specs.Space.{Space}
-use Rattle.h5w_space.specs.declared.Extent.{Extent}
 use Rattle.h5w_steps.specs.Moments.{Represents}
 use Rattle.h5w_steps.specs.Logs.{image_now}
 use Rattle.h5w_steps.proofs.GoesLemmas.{begin_goes, reads_now}
@@ -47,7 +42,7 @@ use Rattle.h5w_session.specs.Stands.{Creating, Running, Stands}
 use Rattle.h5w_session.proofs.PastLemmas.{one_each, past_begins, past_same, some_blocks}
 use Rattle.h5w_visits.specs.Needed.{AreFew}
 use Rattle.h5w_session.proofs.EarlyLemmas.{nothing_early}
-use Rattle.h5w_session.proofs.StandLemmas.{goes_rows, last_running, last_unplanned, left_pending, more_running, settled, with_pending}
+use Rattle.h5w_session.proofs.StandLemmas.{goes_rows, last_running, last_unplanned, left_pending, more_running, settled, with_pending, some_is}
 use Rattle.h5w_session.proofs.StateLemmas.{up_few}
 
 -- ---- Before the first position
@@ -61,9 +56,6 @@ none_read name log (shows w ∷ es) few = ((λ begun. absurd (omega arith)), non
 
 none_still : (name : List ℕ) (log : Log) → shown log.events ≤ log.first → Still name log
 none_still name log few k low high = absurd (omega (arith, length_hist log.events))
-
-some_is : (w : Write) (ws : List Write) → w ∷ ws ≡ [] → ⊥
-some_is w ws e = cc
 
 pub some_length : (ws : List Write) → ws ≢ [] → 0 < length ws
 some_length [] some = absurd (some refl)
@@ -159,7 +151,7 @@ own_of f v is index =
     new_own f.index (index_place f) (block_place f) v (omega (arith, small)) (omega (arith, small)) index.new
 
 -- its index block stands somewhere
-new_made : (k : IndexKind) (at block : ℕ) (v : IndexView) → 0 < block → IsNewIndex k at block v → has_no_block v ≡ false
+pub new_made : (k : IndexKind) (at block : ℕ) (v : IndexView) → 0 < block → IsNewIndex k at block v → has_no_block v ≡ false
 new_made Array at block v some new =
     subst (λ (u : IndexView). has_no_block u ≡ false) (sym new.1) (ap (λ p. p == 0) new.2.index_at ∙ ne_eqb block 0 (λ none. absurd (omega (arith, some, none))))
 new_made Tree at block v some new = subst (λ (u : IndexView). has_no_block u ≡ false) (sym new) refl
@@ -168,7 +160,7 @@ pub made_here : (f : CreatedFile) (v : IndexView) → IsCreatable f → IsIndexO
 made_here f v is index = (own_of f v is index, new_made f.index (index_place f) (block_place f) v (omega arith) index.new)
 
 -- it has room for each chunk
-new_roomy : (k : IndexKind) (at block : ℕ) (v : IndexView) (d : Described) → IsNewIndex k at block v → IsRoomy d v
+pub new_roomy : (k : IndexKind) (at block : ℕ) (v : IndexView) (d : Described) → IsNewIndex k at block v → IsRoomy d v
 new_roomy Array at block v d new = subst (IsRoomy d) (sym new.1) tt
 new_roomy Tree at block v d new = subst (IsRoomy d) (sym new) (depth_laws.none (most_lines d) (keys_across d) at)
 

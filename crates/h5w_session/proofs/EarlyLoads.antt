@@ -17,14 +17,11 @@ use Rattle.h5w_session.specs.Sessions.{Session, cutting_of, next_row, row_bytes,
 use Rattle.h5w_session.specs.Stands.{Running, Stands}
 use Rattle.h5w_session.proofs.EarlyBytes.{length_next, touched_behind, touched_more, unwritten_low}
 use Rattle.h5w_session.proofs.ValueLemmas.{others_fit}
-use Rattle.h5w_session.proofs.LoadLemmas.{Counts, counted, load_is}
+use Rattle.h5w_session.proofs.LoadLemmas.{Counts, counted, load_is, more_times}
 use Rattle.h5w_pieces.proofs.PieceBounds.{new_writes_few}
 use Rattle.h5w_session.proofs.StandLemmas.{none_anywhere}
 
 -- ---- By the load
-
-more_times : (n b : ℕ) → n * (b + 20000) ≡ n * b + n * 20000
-more_times n b = grind arith
 
 module _ (s : Session) (log : Log) (running : s.stopped ≡ false) (idle : s.pending ≡ []) (st : Stands s log) (r : Running s [] log) where
   abbrev d : Described

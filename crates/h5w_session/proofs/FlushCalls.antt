@@ -1,12 +1,10 @@
 -- What the call of a flush tells of the session that it leaves.
-use Rattle.std.proofs.Common.{◌≡◌, ℕ, zero, suc, ◌-◌, ◌*◌, ◌<◌, ◌≤◌, Bool, true, false, nat_lt, if◌then◌else◌, List, [], ◌∷◌, ◌++◌, length, Option, Some, None, Result, Ok, Err, refl, sym, ap, ◌∙◌, subst, arith, length-append, inl, inr}
+use Rattle.std.proofs.Common.{◌≡◌, ℕ, zero, suc, ◌-◌, ◌*◌, ◌<◌, ◌≤◌, Bool, true, false, nat_lt, if◌then◌else◌, [], ◌∷◌, ◌++◌, length, Option, Some, None, Result, Ok, Err, refl, sym, ap, ◌∙◌, subst, arith, length-append, inl, inr}
 use Rattle.std.specs.Option.{MatchOption}
 use Rattle.std.specs.Prelude.{IfOk, OnErr, OnOk}
-use Rattle.std.proofs.lemmas.Bool.{lt-ltb}
 use Rattle.std.proofs.lemmas.List.{nil_from_length}
 use Rattle.h5w_model.specs.Datasets.{Described}
 use Rattle.h5w_model.specs.Logs.{Log, and_now, load, plans}
-use Rattle.h5w_model.specs.declared.piece.Write.{Write}
 use Rattle.h5w_model.specs.declared.root.Super.{Super}
 use Rattle.h5w_space.specs.declared.Full.{Full}
 use Rattle.h5w_header_laws.specs.Files.{with_index}
@@ -27,16 +25,13 @@ use Rattle.h5w_session.proofs.HeaderAlone.{made_there}
 use Rattle.h5w_session.proofs.IndexLemmas.{header_defined}
 use Rattle.h5w_session.proofs.LawLemmas.{roomy_index}
 use Rattle.h5w_session.proofs.StartLoads.{any_bound, any_carries, full_no_place}
+use Rattle.h5w_session.proofs.StateLemmas.{none_pending, none_refused}
 
 -- ---- Where a flush is not refused at once
 
 pub record IsIdle (s : Session) : Type 0 where
   pub running : s.stopped ≡ false
   pub idle : s.pending ≡ []
-
-none_long : (ws : List Write) → nat_lt 0 (length ws) ≡ false → ws ≡ []
-none_long [] e = refl
-none_long (w ∷ ws) e = let clash : true ≡ false = sym (lt-ltb 0 (length (w ∷ ws)) (omega arith)) ∙ e in cc
 
 abbrev refusal_by : Bool → Bool → ℕ → Option FlushError
 refusal_by stopped busy pending = if stopped then Some flushes.Stopped else if busy then Some (flushes.Busy pending) else None
@@ -46,14 +41,10 @@ neither true busy pending none = cc
 neither false true pending none = cc
 neither false false pending none = (refl, refl)
 
-none_refused : {E : Type 0} (refusal : Option E) (r : Result (Unit {0}) E) → MatchOption refusal (r ≡ Ok tt) (λ e. r ≡ Err e) → r ≡ Ok tt → refusal ≡ None
-none_refused None r is ok = refl
-none_refused (Some e) r is ok = let clash : Err e ≡ Ok tt = sym is ∙ ok in cc
-
 pub is_idle : (s : Session) (r : Result (Unit {0}) FlushError) → MatchOption (flush_refusal s) (r ≡ Ok tt) (λ e. r ≡ Err e) → r ≡ Ok tt → IsIdle s
 is_idle s r is ok =
     let by = neither s.stopped (nat_lt 0 (length s.pending)) (length s.pending) (none_refused (flush_refusal s) r is ok) in
-    record { running = by.0; idle = none_long s.pending by.1 }
+    record { running = by.0; idle = none_pending s.pending by.1 }
 
 -- ---- What a flush of some rows does
 

@@ -35,7 +35,6 @@ use Rattle.h5w_flush_laws.proofs.ChunkPlaceLemmas.{places_apart}
 use Rattle.h5w_flush_laws.proofs.FlushLaws.{knows_then}
 use Rattle.h5w_flush_laws.proofs.RowsLaws.{rows_flush}
 use Rattle.h5w_flush_laws.proofs.SessionLaws.{session_laws}
-use Rattle.h5w_array_flushes.specs.ArrayFlushes.{chunks_for}
 use Rattle.h5w_array_flushes.proofs.ArrayLaws.{new_are}
 use Rattle.h5w_index.specs.Views.{IndexView, address_in}
 use Rattle.h5w_index.specs.Steps.{IsPlan}
@@ -55,6 +54,7 @@ use Rattle.h5w_session.specs.PartOf.{IsPartOf}
 use Rattle.h5w_session.specs.Past.{IsCounted, Past}
 use Rattle.h5w_session.specs.Stands.{Running}
 use Rattle.h5w_types.proofs.RunLemmas.{first_has_cell}
+use Rattle.h5w_flush_laws.specs.Chunks.{chunks_for}
 use Rattle.h5w_session.proofs.IndexLemmas.{kept_whole}
 use Rattle.h5w_session.proofs.CreatingLemmas.{no_cells}
 use Rattle.h5w_session.proofs.EarlyLemmas.{nothing_early}

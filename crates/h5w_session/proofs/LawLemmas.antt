@@ -9,35 +9,37 @@ use Rattle.h5w_model.specs.Programs.{Visit, eval, ret, and_then, visits}
 use Rattle.h5w_model.specs.Logs.{Log, Happening, flushed, hist, rows_in, shown}
 use Rattle.h5w_model.specs.Datasets.{Described, dataset, dataset_place, root_header, root_view}
 use Rattle.h5w_model.specs.Tables.{Limits, Reading, Shows, format_limits, limit_of, needed, needed_keys, needed_table, table_of}
-use Rattle.h5w_model.specs.Prefixed.{EachReads, Held, IsPosition, Keeps, Prefixed, ReadsNow, continuation_blocks, image_at, root_address}
+use Rattle.h5w_model.specs.Prefixed.{EachReads, Held, IsPosition, Keeps, Prefixed, ReadsNow, SameDescribed, continuation_blocks, image_at, root_address}
 use Rattle.h5w_model.specs.declared.cell.IndexKind.{IndexKind}
 use Rattle.h5w_model.specs.declared.piece.Write.{Write}
 use Rattle.h5w_model.specs.declared.refusal.ReadError.TheVariants as read_errors
 use Rattle.h5w_laws.proofs.HeldLemmas.{still_gives_held}
 use Rattle.h5w_laws.proofs.LogLemmas.{each_gives_prefixed, length_hist}
 use Rattle.h5w_laws.proofs.ProgramLemmas.{same_visits}
+use Rattle.h5w_laws.proofs.StaysLemmas.{described_onward}
 use Rattle.h5w_laws.proofs.ResultLemmas.{and_then_from}
 use Rattle.h5w_laws.proofs.ValidLemmas.{dataset_ok, place_ok}
 use Rattle.h5w_steps.specs.Moments.{Moment, Represents, reading_of}
 use Rattle.h5w_steps.proofs.FoundLemmas.{moment_shows, opens, shown_is}
-use Rattle.h5w_steps.proofs.GoesLemmas.{reads_now}
+use Rattle.h5w_steps.proofs.GoesLemmas.{image_last, reads_now}
 use Rattle.h5w_steps.proofs.MomentLemmas.{few, super_parts}
 use Rattle.h5w_steps.specs.Logs.{image_now}
 use Rattle.h5w_cache.specs.Stores.{Store}
 use Rattle.h5w_index.specs.Views.{an_array}
 use Rattle.h5w_index.specs.Placing.{IsOwn, IsOwnArray}
-use Rattle.h5w_creation_laws.specs.CreatedFiles.{CreatedFile, IsCreatable, created_blocks, created_moment, described_of, index_place, root_place}
+use Rattle.h5w_creation_laws.specs.CreatedFiles.{CreatedFile, IsCreatable, created_blocks, created_moment, index_place, root_place}
 use Rattle.h5w_creation_laws.proofs.CreatedLaws.{created_sizes}
 use Rattle.h5w_session.specs.Laws.{IsDatasetOf, RoomStays, SaysNumbers, ShownLaws, StandingLaws}
 use Rattle.h5w_session.specs.Loads.{end_in, first_end_of}
 use Rattle.h5w_session.specs.Past.{HasCreated, HasOpened, IsNew, Past, most_of}
 use Rattle.h5w_session.specs.Room.{HasRoomFor}
-use Rattle.h5w_session.specs.Sessions.{IsRoomy, Session, Settles, chunk_limit, with_rows, IsNamed}
+use Rattle.h5w_session.specs.Sessions.{IsRoomy, Session, Settles, chunk_limit, IsNamed}
 use Rattle.h5w_session.specs.Stands.{Creating, Stands}
 use Rattle.h5w_session.proofs.BeginLemmas.{beginning, new_image, since_first}
 use Rattle.h5w_session.proofs.CreatingLemmas.{committed_told, own_of, roomy_of, rows_told, shown_so_far, some_length}
 use Rattle.h5w_session.proofs.PastLemmas.{ends_front, ends_later, ends_take, image_ends, new_end, new_named, some_blocks}
 use Rattle.h5w_session.proofs.StandLemmas.{freed_keeps, goes_rows, left_running, resting}
+use Rattle.h5w_session.proofs.DatasetLemmas.{dataset_of, flush_keeps}
 use Rattle.h5w_session.proofs.IndexLemmas.{kept_whole}
 use Rattle.h5w_session.proofs.RestLemmas.{array_rests, at_rest}
 
@@ -130,6 +132,28 @@ few_needed s log p r st at shows =
     let inside : needed m.dataset ≤ top = ltb-false top (needed m.dataset) (few (image_at log p) s.name m file.1) in
     subst (λ (x : Reading). needed x.dataset ≤ limit_of format_limits x.dataset.layout.index) (sym (shown_is (image_at log p) s.name m r file.1 shows)) inside
 
+-- what each position shows is the session's dataset, but for its rows
+dataset_is : (s : Session) (log : Log) (p : ℕ) (r : Reading) → Stands s log → IsPosition log p → Shows format_limits (image_at log p) s.name r → IsDatasetOf s r
+dataset_is s log p r st at shows =
+    elim st.phase [
+      | inl c ↦ absurd (none_yet c.0 s st.left log p c.1 at)
+      | inr run ↦
+          let m = run.runs.before in
+          let g = run.runs.goes in
+          let last : ℕ = shown log.events in
+          let now : IsPosition log last = record { begun = g.begun; reached = omega (arith, length_hist log.events) } in
+          let seen : Shows format_limits (image_at log last) s.name (reading_of m) =
+          subst (λ (i : List ℕ). Shows format_limits i s.name (reading_of m)) (sym (image_last log last (omega arith))) (moment_shows (image_now log) s.name m g.now) in
+          let kept = (stands_held s log st p last r (reading_of m) at now (omega (arith, at.reached, length_hist log.events)) shows seen).stays in
+          let later = flush_keeps (image_now log) s.name m run.after run.runs.held run.held st.left g.now run.runs.flush in
+          let described = described_onward r.dataset m.dataset run.after.dataset kept.described later.described in
+          dataset_of s r (sym run.keeps.place ∙ later.place ∙ kept.place) (subst (λ (d : Described). SameDescribed r.dataset d) run.keeps.dataset described)
+    ]
+
+-- so few chunks are needed by the session's own index
+few_of : (s : Session) (log : Log) (p : ℕ) (r : Reading) → Stands s log → IsPosition log p → Shows format_limits (image_at log p) s.name r → needed r.dataset ≤ chunk_limit s
+few_of s log p r st at shows = subst (λ (k : IndexKind). needed r.dataset ≤ limit_of format_limits k) (dataset_is s log p r st at shows).index (few_needed s log p r st at shows)
+
 -- the file that was opened ends within its bytes
 opened_end : (s : Session) (log : Log) → HasOpened s log → first_end_of log ≤ length log.start
 opened_end s log b =
@@ -172,6 +196,9 @@ standing_laws = record {
   limited = λ s log st. (started s log st).limit;
   fits = image_within;
   within = few_needed;
+  dataset = dataset_is;
+  few = few_of;
+  addressed = λ s log p r st bare at shows. (past_at s log p st at).1.addressed bare p r at shows;
 }
 
 -- ---- In a file that the session created
@@ -188,29 +215,6 @@ kept_at : (s : Session) (log : Log) (p : ℕ) (r : Reading) → (st : Stands s l
     → Keeps (new_image (begun_at s log p st new at).file) (reading_of (created_moment (begun_at s log p st new at).file)) (image_at log p) r
 kept_at s log p r st new at shows = since_first s log p r (begun_at s log p st new at) (stands_held s log st) at shows
 
-dataset_is : (s : Session) (log : Log) (p : ℕ) (r : Reading) → Stands s log → IsNew log → IsPosition log p → Shows format_limits (image_at log p) s.name r → IsDatasetOf s r
-dataset_is s log p r st new at shows =
-    let b = begun_at s log p st new at in
-    let f = b.file in
-    let kept = kept_at s log p r st new at shows in
-    let described = kept.stays.described in
-    let address : r.dataset.layout.address ≡ index_place f = described.address (λ e. absurd (omega (arith, e, index_low f b.is))) in
-    let new : r.dataset ≡ with_rows r.dataset.shape.rows (described_of f) =
-    described.rows_alone ∙ ap (λ (a : ℕ). record (with_rows r.dataset.shape.rows (described_of f)) { layout = record ((described_of f).layout) { address = a } }) address in
-    let same : r.dataset ≡ with_rows r.dataset.shape.rows s.dataset = new ∙ ap (with_rows r.dataset.shape.rows) (sym b.dataset) in
-    record {
-      place = kept.stays.place ∙ sym b.place;
-      rank = ap (λ (d : Described). d.shape.rank) same;
-      columns = ap (λ (d : Described). d.shape.cols) same;
-      growing = ap (λ (d : Described). d.shape.growing) same;
-      int_type = ap (λ (d : Described). d.int_type) same;
-      fill = ap (λ (d : Described). d.fill) same;
-      index = ap (λ (d : Described). d.layout.index) same;
-      chunk_rows = ap (λ (d : Described). d.layout.chunk_rows) same;
-      chunk_columns = ap (λ (d : Described). d.layout.chunk_cols) same;
-      needed = ap needed same;
-    }
-
 -- within any limits that allow the needed chunks
 moment_within : (limits : Limits) (img name : List ℕ) (m : Moment) → needed m.dataset ≤ limit_of limits m.dataset.layout.index → Represents img name m → Shows limits img name (reading_of m)
 moment_within limits img name m few r =
@@ -223,17 +227,11 @@ moment_within limits img name m few r =
     (and_then_from img (dataset m.place) (λ d. and_then (needed_table limits d) (λ t. ret (Ok (record { place = m.place; dataset = d; table = t })))) d shown header.0
     (and_then_from img (needed_table limits d) (λ t. ret (Ok (record { place = m.place; dataset = d; table = t }))) m.table shown table refl))
 
--- by the session's own index
-few_of : (s : Session) (log : Log) (p : ℕ) (r : Reading) → Stands s log → IsNew log → IsPosition log p → Shows format_limits (image_at log p) s.name r → needed r.dataset ≤ chunk_limit s
-few_of s log p r st new at shows =
-    let same = (dataset_is s log p r st new at shows).index in
-    subst (λ (k : IndexKind). needed r.dataset ≤ limit_of format_limits k) same (few_needed s log p r st at shows)
-
 few_within : (s : Session) (log : Log) (limits : Limits) (p : ℕ) (r : Reading) → Stands s log → IsNew log → chunk_limit s ≤ limit_of limits s.dataset.layout.index → IsPosition log p → Shows format_limits (image_at log p) s.name r
     → needed r.dataset ≤ limit_of limits r.dataset.layout.index
 few_within s log limits p r st new most at shows =
-    let same = (dataset_is s log p r st new at shows).index in
-    subst (λ (k : IndexKind). needed r.dataset ≤ limit_of limits k) (sym same) (omega (arith, few_of s log p r st new at shows, most))
+    let same = (dataset_is s log p r st at shows).index in
+    subst (λ (k : IndexKind). needed r.dataset ≤ limit_of limits k) (sym same) (omega (arith, few_of s log p r st at shows, most))
 
 shows_within : (s : Session) (log : Log) (limits : Limits) (p : ℕ) (r : Reading) → Stands s log → IsNew log → chunk_limit s ≤ limit_of limits s.dataset.layout.index → IsPosition log p → Shows format_limits (image_at log p) s.name r
     → Shows limits (image_at log p) s.name r
@@ -311,11 +309,11 @@ says_numbers s log st new running idle none v e =
 
 pub shown_laws : ShownLaws
 shown_laws = record {
-  dataset = dataset_is;
+  dataset = λ s log p r st new at shows. dataset_is s log p r st at shows;
   shown = shows_within;
   within = few_within;
-  few = few_of;
-  addressed = λ s log p r st new at shows. (past_at s log p st at).1.addressed new p r at shows;
+  few = λ s log p r st new at shows. few_of s log p r st at shows;
+  addressed = λ s log p r st new at shows. (past_at s log p st at).1.addressed (ap (λ (l : Log). l.values) new.log_is) p r at shows;
   root_header = root_one;
   dataset_header = header_alone;
   fits = image_fits;

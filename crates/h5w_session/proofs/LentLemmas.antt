@@ -4,7 +4,7 @@ use Rattle.h5w_model.specs.Findings.{the_superblock}
 use Rattle.h5w_model.specs.declared.root.Super.{Super}
 use Rattle.h5w_space.specs.Space.{IsLive, Space}
 use Rattle.h5w_flush_laws.specs.Spaces.{extent_of}
-use Rattle.h5w_session.specs.Halves.{IsHalf, end_of, places_of}
+use Rattle.h5w_session.specs.Halves.{IsHalf, places_of}
 use Rattle.h5w_session.specs.Lent.{IsFurther, WasLent}
 use Rattle.h5w_session.specs.Sessions.{IsSession, IsUnmade, Session, rows_of}
 use Rattle.h5w_session.specs.Told.{told_of}
@@ -56,11 +56,6 @@ returned_is m root t w =
 
 -- ---- Where a flush that is planned ends
 
-pub half_end : (old mid : Session) (p : Planned) → IsHalf old mid p → end_of mid p ≡ (places_of mid p).end
-half_end old mid (Alone ws) h = refl
-half_end old mid (Grows p) h = h.ready.end
-half_end old mid (Starts p) h = h.1.ready.end
-
 pub half_further : (old mid : Session) (p : Planned) → IsHalf old mid p → IsFurther old.places (places_of mid p)
 half_further old mid (Alone ws) h = subst (λ (m : Session). IsFurther old.places m.places) (sym h.0) (record { rises = omega arith; limit = refl; fits = omega arith })
 half_further old mid (Grows p) h = far old h.session h.there p.prepared p.added.items mid.index mid.places h.ready
@@ -70,13 +65,3 @@ half_further old mid (Starts p) h =
     further_on old.places x.first p.places (further old.places x.first _ x.start.raised)
     (further_on x.first r.prepared.between p.places (further x.first r.prepared.between _ r.prepared.taken.raised)
     (begun_further _ r.prepared.between p.prepared.begun p.places r.prepared.names.partly.like.sound r.prepared.begun))
-
-half_session : (old mid : Session) (p : Planned) → IsHalf old mid p → IsSession mid → IsSession old
-half_session old mid (Alone ws) h is = subst IsSession h.0 is
-half_session old mid (Grows p) h is = h.session
-half_session old mid (Starts p) h is = h.1.session
-
-pub half_small : (old mid : Session) (p : Planned) → IsHalf old mid p → IsSession mid → (places_of mid p).end < 2 ^ 64
-half_small old mid p h is =
-    let was = half_session old mid p h is in
-    omega (arith, (half_further old mid p h).fits, was.small, was.limit)

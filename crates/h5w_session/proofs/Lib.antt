@@ -12,6 +12,7 @@ pub mod TakingLemmas
 pub mod RootLooks
 pub mod BeginLemmas
 pub mod RestLemmas
+pub mod DatasetLemmas
 pub mod LawLemmas
 pub mod FindingLemmas
 pub mod ValueLemmas
@@ -48,6 +49,7 @@ pub mod AppendStands
 pub mod EarlyCalls
 pub mod HeaderAlone
 pub mod StartLoads
+pub mod HalfLoads
 pub mod FlushCalls
 pub mod OpenedLemmas
 pub mod PartLemmas

@@ -51,7 +51,7 @@ between_same : (a b c e : ℕ) → a ≡ b → b ≤ c → c ≡ e → a ≤ e
 between_same a b c e first less last = omega (arith, first, less, last)
 
 -- a product of no fewer
-more_times : (n b : ℕ) → n * (b + 20000) ≡ n * b + n * 20000
+pub more_times : (n b : ℕ) → n * (b + 20000) ≡ n * b + n * 20000
 more_times n b = grind arith
 
 -- what the pieces of a flush into n chunks of b bytes come to
@@ -177,7 +177,7 @@ module _ (old new : Session) (log : Log) (x : IsFlushed old new) (running : old.
   pub past_flushed : AllEndBy new.places.end new.pending → Past new new.pending (and_now (plans (length new.pending)) log) (after_flush old new log x r)
   past_flushed within =
       past_planned old new (length new.pending) new.pending log r.after (after_flush old new log x r) (like_flushed old new x.session flush_raised.limit (λ o. (planned_own old old.index old.places new.index new.places x.planned o.0, same_block old.index new.index ((told_of old old.index old.places new.index new.places x.planned).stay ∙ x.planned.names.partly.like.fixed) ∙ o.1)) (any_reached old new (inl x)) (planned_roomy old old.index old.places new.index new.places x.planned)) flush_raised
-      within (λ new_log. next_addressed old new log x r new_log) r.past
+      within (λ bare. next_addressed old new log x r bare) r.past
 
 -- the pieces of a flush, and what is left of the relation to the log
 pub flush_bound : (old new : Session) (log : Log) → IsFlushed old new → old.stopped ≡ false → old.pending ≡ [] → Stands old log → length new.pending ≤ load (cutting_of old) log

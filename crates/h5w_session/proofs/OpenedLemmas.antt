@@ -1,12 +1,14 @@
 -- A session over a file that was opened stands for the log without events.
 use Rattle.std.proofs.Common.{◌≡◌, ℕ, ◌+◌, ◌-◌, ◌*◌, ◌<◌, ◌≤◌, List, [], ◌∷◌, ◌++◌, length, get_or, ℤ, refl, sym, ap, ◌∙◌, subst, inl, inr, arith, length-append}
+use Rattle.std.proofs.lemmas.Nat.{mul-le}
 use Rattle.h5w_model.specs.Datasets.{Described}
 use Rattle.h5w_model.specs.Findings.{Summary, Valid}
 use Rattle.h5w_model.specs.Logs.{Log, div_up, rows_in}
 use Rattle.h5w_model.specs.Numbers.{range}
-use Rattle.h5w_model.specs.Tables.{Reads}
-use Rattle.h5w_steps.specs.Logs.{Goes}
-use Rattle.h5w_steps.specs.Moments.{Moment, Represents}
+use Rattle.h5w_model.specs.Tables.{Reads, Shows, chunks_across, format_limits, needed}
+use Rattle.h5w_steps.specs.Logs.{Goes, image_now}
+use Rattle.h5w_steps.specs.Moments.{Moment, Represents, reading_of}
+use Rattle.h5w_steps.proofs.GoesLemmas.{image_last}
 use Rattle.h5w_steps.proofs.MomentLemmas.{few, super_parts}
 use Rattle.h5w_steps.proofs.SessionLaws.{goes_runs, opened_goes}
 use Rattle.h5w_cache.specs.Stores.{times}
@@ -21,15 +23,17 @@ use Rattle.h5w_session.specs.Early.{HasEarly}
 use Rattle.h5w_session.specs.Loads.{end_in, first_end_of}
 use Rattle.h5w_session.specs.Openings.{IsOver, OverLaws, opened_log}
 use Rattle.h5w_session.specs.PartLaws.{RunsAs}
-use Rattle.h5w_session.specs.Past.{IsNew, Past}
+use Rattle.h5w_session.specs.Past.{AllAddressed, IsNew, Past}
 use Rattle.h5w_session.specs.Sessions.{AreReached, Session, rows_of, with_rows}
 use Rattle.h5w_session.specs.Reaches.{FileFinds}
 use Rattle.h5w_session.specs.Stands.{Running, Stands}
+use Rattle.h5w_session.proofs.AddressedLemmas.{shown_addressed}
 use Rattle.h5w_session.proofs.CreatingLemmas.{no_cells}
 use Rattle.h5w_session.proofs.EarlyLemmas.{nothing_early}
 use Rattle.h5w_session.proofs.RestLemmas.{array_six}
 use Rattle.h5w_session.proofs.StandLemmas.{flagged_stands, goes_rows}
 use Rattle.h5w_session.proofs.StartKinds.{blank_none}
+use Rattle.h5w_session.proofs.StateLemmas.{up_few}
 
 -- the end-of-file address of what was opened
 first_end_is : (img name : List ℕ) (m : Moment) (columns : ℕ) (values : List ℤ) → Represents img name m → first_end_of (opened_log img columns values) ≡ m.super.end
@@ -50,6 +54,18 @@ module _ (s : Session) (img : List ℕ) (rows columns : ℕ) (values : List ℤ)
   -- all rows were there before
   first_rows : rows_in log values ≡ s.dataset.shape.rows
   first_rows = goes_rows s.name log m m.behind goes ∙ ap (λ (d : Described). d.shape.rows) b.keeps.dataset
+
+  -- where there were no values no chunk was needed
+  none_lacks : values ≡ [] → AllAddressed (reading_of m)
+  none_lacks bare k below =
+      let rows : ℕ = m.dataset.shape.rows in
+      let cols : ℕ = m.dataset.shape.cols in
+      let none : rows * cols ≡ 0 = sym goes.now.count ∙ ap length (same ∙ bare) in
+      let few : rows * 1 ≤ rows * cols = mul-le rows 1 rows cols (omega arith) (omega (arith, goes.columns, some)) in
+      let counted : 0 < m.dataset.layout.chunk_rows = subst (λ (d : Described). 0 < d.layout.chunk_rows) (sym b.keeps.dataset) b.counted.rows in
+      let bands : div_up rows m.dataset.layout.chunk_rows ≡ 0 = omega (arith, none, few, up_few rows m.dataset.layout.chunk_rows counted) in
+      let all : needed m.dataset ≡ 0 = ap (λ (n : ℕ). n * chunks_across m.dataset) bands ∙ omega arith in
+      absurd (omega (arith, below, all))
 
   -- readers look for each chunk that HDF5's library found before
   opened_reached : FileFinds img s.name → AreReached s
@@ -77,8 +93,8 @@ module _ (s : Session) (img : List ℕ) (rows columns : ℕ) (values : List ℤ)
         counted = b.counted;
         limit_low = b.limit_low;
         limit_high = b.limit_high;
-        addressed = λ new. not_new new;
-        next = λ new. not_new new;
+        addressed = λ bare p r at seen. shown_addressed (image_now log) s.name m r goes.now (none_lacks bare) (subst (λ (i : List ℕ). Shows format_limits i s.name r) (image_last log p (omega arith)) seen);
+        next = none_lacks;
         own = λ new. not_new new;
         reach = λ before. elim before [ inl more ↦ absurd (let first : rows_in log values ≡ s.dataset.shape.rows = first_rows in omega (arith, more, first)) | inr finds ↦ opened_reached finds ];
         grew = omega (arith, b.end, end);

@@ -203,8 +203,8 @@ past_values s t vs log m like end past =
       counted = counted_alike s t like past.counted;
       limit_low = omega (arith, past.limit_low, like.limit);
       limit_high = omega (arith, past.limit_high, like.limit);
-      addressed = λ new. subst (λ (name : List ℕ). EachAddressed name (and_now e log)) (sym like.name) (same_positions e log s.name refl (past.addressed (new_before e log new)));
-      next = λ new. past.next (new_before e log new);
+      addressed = λ bare. subst (λ (name : List ℕ). EachAddressed name (and_now e log)) (sym like.name) (same_positions e log s.name refl (past.addressed bare));
+      next = past.next;
       own = λ new. like.own (past.own (new_before e log new));
       reach = like.reach (rows_in log log.values) log.start past.reach;
       grew =
@@ -226,8 +226,8 @@ past_early s t vs ws log m like raised within past =
       counted = counted_alike s t like past.counted;
       limit_low = omega (arith, past.limit_low, like.limit);
       limit_high = omega (arith, past.limit_high, like.limit);
-      addressed = λ new. subst (λ (name : List ℕ). EachAddressed name (and_now e log)) (sym like.name) (same_positions e log s.name refl (past.addressed (new_before e log new)));
-      next = λ new. past.next (new_before e log new);
+      addressed = λ bare. subst (λ (name : List ℕ). EachAddressed name (and_now e log)) (sym like.name) (same_positions e log s.name refl (past.addressed bare));
+      next = past.next;
       own = λ new. like.own (past.own (new_before e log new));
       reach = like.reach (rows_in log log.values) log.start past.reach;
       grew =
@@ -240,7 +240,7 @@ past_early s t vs ws log m like raised within past =
 
 -- a flush is planned, and all needed chunks of the file after it have addresses
 pub past_planned : (s t : Session) (k : ℕ) (ws : List Write) (log : Log) (m n : Moment) → IsLike s t → IsRaised s.places t.places (load (cutting_of s) log) → AllEndBy t.places.end ws
-    → (IsNew log → AllAddressed (reading_of n)) → Past s [] log m → Past t ws (and_now (plans k) log) n
+    → (log.values ≡ [] → AllAddressed (reading_of n)) → Past s [] log m → Past t ws (and_now (plans k) log) n
 past_planned s t k ws log m n like raised within next past =
     let e = plans k in
     let fits : t.places.end ≤ most_of t log = omega (arith, raised.fits, past.fits, most_alike s t log like, raised.limit) in
@@ -249,8 +249,8 @@ past_planned s t k ws log m n like raised within next past =
       counted = counted_alike s t like past.counted;
       limit_low = omega (arith, past.limit_low, like.limit);
       limit_high = omega (arith, past.limit_high, like.limit);
-      addressed = λ new. subst (λ (name : List ℕ). EachAddressed name (and_now e log)) (sym like.name) (same_positions e log s.name refl (past.addressed (new_before e log new)));
-      next = λ new. next (new_before e log new);
+      addressed = λ bare. subst (λ (name : List ℕ). EachAddressed name (and_now e log)) (sym like.name) (same_positions e log s.name refl (past.addressed bare));
+      next = next;
       own = λ new. like.own (past.own (new_before e log new));
       reach = like.reach (rows_in log log.values) log.start past.reach;
       grew =
@@ -268,8 +268,8 @@ past_more s t ws log m n like end fits same past = record {
   counted = counted_alike s t like past.counted;
   limit_low = omega (arith, past.limit_low, like.limit);
   limit_high = omega (arith, past.limit_high, like.limit);
-  addressed = λ new. subst (λ (name : List ℕ). EachAddressed name log) (sym like.name) (past.addressed new);
-  next = λ new. subst AllAddressed (sym same) (past.next new);
+  addressed = λ bare. subst (λ (name : List ℕ). EachAddressed name log) (sym like.name) (past.addressed bare);
+  next = λ bare. subst AllAddressed (sym same) (past.next bare);
   own = λ new. like.own (past.own new);
   reach = like.reach (rows_in log log.values) log.start past.reach;
   grew = grew_alike s t log like log s.places.end past.grew end;
@@ -285,7 +285,7 @@ past_same s t ws log m like end past = record {
   counted = counted_alike s t like past.counted;
   limit_low = omega (arith, past.limit_low, like.limit);
   limit_high = omega (arith, past.limit_high, like.limit);
-  addressed = λ new. subst (λ (name : List ℕ). EachAddressed name log) (sym like.name) (past.addressed new);
+  addressed = λ bare. subst (λ (name : List ℕ). EachAddressed name log) (sym like.name) (past.addressed bare);
   next = past.next;
   own = λ new. like.own (past.own new);
   reach = like.reach (rows_in log log.values) log.start past.reach;
@@ -298,17 +298,17 @@ past_same s t ws log m like end past = record {
 -- ---- A piece becomes visible
 
 -- at the moment now the needed chunks have addresses
-pub now_addressed : (s : Session) (ws : List Write) (log : Log) (m : Moment) → IsNew log → Past s ws log m → (now : Moment) → log.first ≤ shown log.events → Represents (image_now log) s.name now → AllAddressed (reading_of now)
-now_addressed s ws log m new past now begun here =
+pub now_addressed : (s : Session) (ws : List Write) (log : Log) (m : Moment) → log.values ≡ [] → Past s ws log m → (now : Moment) → log.first ≤ shown log.events → Represents (image_now log) s.name now → AllAddressed (reading_of now)
+now_addressed s ws log m bare past now begun here =
     let p = shown log.events in
     let at : IsPosition log p = record { begun = begun; reached = omega (arith, length_hist log.events) } in
-    past.addressed new p (reading_of now) at (subst (λ (img : List ℕ). Shows format_limits img s.name (reading_of now)) (sym (image_last log p (omega arith))) (moment_shows (image_now log) s.name now here))
+    past.addressed bare p (reading_of now) at (subst (λ (img : List ℕ). Shows format_limits img s.name (reading_of now)) (sym (image_last log p (omega arith))) (moment_shows (image_now log) s.name now here))
 
-between_addressed : (s : Session) (w : Write) (ws : List Write) (log : Log) (n : Moment) (held : List Used) → IsNew log → (r : Runs s.name log (w ∷ ws) n held) → Past s (w ∷ ws) log n → AllAddressed (reading_of r.flush.0)
-between_addressed s w [] log n held new r past = subst (λ (x : Moment). AllAddressed (reading_of x)) r.flush.4.0 (past.next new)
-between_addressed s w (x ∷ xs) log n held new r past =
+between_addressed : (s : Session) (w : Write) (ws : List Write) (log : Log) (n : Moment) (held : List Used) → log.values ≡ [] → (r : Runs s.name log (w ∷ ws) n held) → Past s (w ∷ ws) log n → AllAddressed (reading_of r.flush.0)
+between_addressed s w [] log n held bare r past = subst (λ (x : Moment). AllAddressed (reading_of x)) r.flush.4.0 (past.next bare)
+between_addressed s w (x ∷ xs) log n held bare r past =
     let g = r.goes in
-    step_addressed (image_now log) s.name r.before r.held w r.flush.0 r.flush.1 g.now (omega (arith, g.columns, g.some_columns)) r.flush.2 (r.flush.3 (λ e. cc)) (now_addressed s (w ∷ x ∷ xs) log n new past r.before g.begun g.now)
+    step_addressed (image_now log) s.name r.before r.held w r.flush.0 r.flush.1 g.now (omega (arith, g.columns, g.some_columns)) r.flush.2 (r.flush.3 (λ e. cc)) (now_addressed s (w ∷ x ∷ xs) log n bare past r.before g.begun g.now)
 
 pub past_shown : (s t : Session) (w : Write) (ws : List Write) (log : Log) (n : Moment) (held : List Used) → IsLike s t → t.places.end ≡ s.places.end → Runs s.name log (w ∷ ws) n held → Past s (w ∷ ws) log n
     → Past t ws (and_now (shows w) log) n
@@ -318,13 +318,13 @@ past_shown s t w ws log n held like end r past =
     let g = r.goes in
     let between = r.flush.0 in
     let here : Represents (image_now next) s.name between = subst (λ (img : List ℕ). Represents img s.name between) (sym (image_pushed log w)) (step_represents (image_now log) s.name r.before r.held w between r.flush.1 g.now r.flush.2) in
-    let addressed : IsNew log → EachAddressed s.name next = λ new p x at seen.
+    let addressed : log.values ≡ [] → EachAddressed s.name next = λ bare p x at seen.
     elim (cases_lt (shown log.events) p) [
       | inl last ↦
           let img : image_at next p ≡ image_now next = image_last next p (omega (arith, last)) in
-          shown_addressed (image_now next) s.name between x here (between_addressed s w ws log n held new r past) (subst (λ (i : List ℕ). Shows format_limits i s.name x) img seen)
+          shown_addressed (image_now next) s.name between x here (between_addressed s w ws log n held bare r past) (subst (λ (i : List ℕ). Shows format_limits i s.name x) img seen)
       | inr early ↦
-          past.addressed new p x (record { begun = at.begun; reached = omega (arith, early, length_hist log.events) })
+          past.addressed bare p x (record { begun = at.begun; reached = omega (arith, early, length_hist log.events) })
           (subst (λ (i : List ℕ). Shows format_limits i s.name x) (image_earlier (shows w) log p early) seen)
     ] in
     record {
@@ -332,8 +332,8 @@ past_shown s t w ws log n held like end r past =
       counted = counted_alike s t like past.counted;
       limit_low = omega (arith, past.limit_low, like.limit);
       limit_high = omega (arith, past.limit_high, like.limit);
-      addressed = λ new. subst (λ (name : List ℕ). EachAddressed name next) (sym like.name) (addressed (new_before e log new));
-      next = λ new. past.next (new_before e log new);
+      addressed = λ bare. subst (λ (name : List ℕ). EachAddressed name next) (sym like.name) (addressed bare);
+      next = past.next;
       own = λ new. like.own (past.own (new_before e log new));
       reach = like.reach (rows_in log log.values) log.start past.reach;
       grew =
@@ -390,10 +390,10 @@ past_begins f s log m is log_is pieces name place dataset limit end fits here no
       counted = subst IsCounted (sym dataset) (new_counted f is);
       limit_low = limit.low;
       limit_high = limit.high;
-      addressed = λ new p r at seen.
+      addressed = λ bare p r at seen.
           let now : shown log.events ≤ p = omega (arith, length_hist log.events, count, first, at.begun) in
           shown_addressed (image_now log) s.name m r here nothing (subst (λ (i : List ℕ). Shows format_limits i s.name r) (image_last log p now) seen);
-      next = λ new. nothing;
+      next = λ bare. nothing;
       own = λ new. own;
       reach = λ more key low there. reach_laws.own s.index key own.0 there;
       grew = omega (arith, end, small, began);

@@ -15,7 +15,7 @@ use Rattle.h5w_visits.specs.Ranges.{block_at}
 use Rattle.h5w_visits.proofs.HeaderLaws.{root_parts}
 use Rattle.h5w_visits.proofs.HeaderVisits.{used_of, looks_of, choice_looks, from_chunk_walked}
 
-abbrev first_len : List Used → ℕ
+abbrev pub first_len : List Used → ℕ
 first_len [] = 0
 first_len (u ∷ us) = u.len
 

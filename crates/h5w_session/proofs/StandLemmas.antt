@@ -54,7 +54,7 @@ use Rattle.h5w_session.proofs.StateLemmas.{Accepted, rows_are}
 pub not_both : (b : Bool) → b ≡ false → b ≡ true → ⊥
 not_both b first second = let clash : false ≡ true = sym first ∙ second in cc
 
-some_is : (w : Write) (ws : List Write) → w ∷ ws ≡ [] → ⊥
+pub some_is : (w : Write) (ws : List Write) → w ∷ ws ≡ [] → ⊥
 some_is w ws e = cc
 
 -- of a session that was not stopped nothing was dropped

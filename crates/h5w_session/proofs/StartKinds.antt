@@ -37,7 +37,6 @@ use Rattle.h5w_flush_laws.specs.Knowledge.{Knows}
 use Rattle.h5w_flush_laws.specs.Parts.{AreEnded, Parts, committed, pieces_of}
 use Rattle.h5w_flush_laws.specs.Rows.{ArePlaced, IsOutside, IsPlaced, new_chunks}
 use Rattle.h5w_flush_laws.proofs.SpaceLemmas.{taken_laws}
-use Rattle.h5w_array_flushes.specs.ArrayFlushes.{chunks_for}
 use Rattle.h5w_starting_laws.specs.Starting as starts
 use Rattle.h5w_starting_laws.specs.Starting.{no_chunk, StartKnows}
 use Rattle.h5w_starting_laws.specs.StartCalls.{ArePending, AreStartCalls, IsMade, NamesChunks}
@@ -57,10 +56,11 @@ use Rattle.h5w_index.specs.Naming.{AreNamed}
 use Rattle.h5w_tree_starting_laws.specs.TreeStarting as tree_starts
 use Rattle.h5w_tree_starting_laws.specs.TreeStarting.{TreeStartKnows}
 use Rattle.h5w_tree_starting_laws.specs.TreeStartCalls.{AreTreeStartCalls}
-use Rattle.h5w_tree_starting_laws.proofs.TreeStartCallLemmas.{tree_start_calls}
+use Rattle.h5w_tree_starting_laws.proofs.TreeStartCallLemmas.{tree_start_calls, first_of}
 use Rattle.h5w_tree_starting_laws.proofs.TreeLeadLemmas.{tree_start_leads, tree_start_runs}
 use Rattle.h5w_session.specs.Indexes.{IsBlank}
 use Rattle.h5w_pieces.specs.Joined.{AreJoined, IsNaming}
+use Rattle.h5w_flush_laws.specs.Chunks.{chunks_for}
 use Rattle.h5w_session.specs.Starts.{IsArrayMade, IsMadeAt, IsTreeMade, TookTops, TookTwo, both, block_alone}
 
 -- ---- An index without chunks
@@ -132,10 +132,6 @@ all_before naming n writes cs fixed supers header ws is j =
     let none : j.behind ≡ [] = j.unnamed (subst (λ (o : Option ℕ). IsSome o) (sym is) refl) in
     let front : j.front ≡ fixed = sym (append-nil j.front) ∙ ap (λ (vs : List Write). j.front ++ vs) (sym none) ∙ j.cut in
     j.all ∙ ap (λ (vs : List Write). writes ++ (cs ++ (j.front ++ (supers ++ (vs ++ header ∷ []))))) none ∙ ap (λ (vs : List Write). writes ++ (cs ++ (vs ++ (supers ++ header ∷ [])))) front
-
-first_of : (places : List ChunkPlace) → 0 < length places → (p : ChunkPlace) × (slice_get places 0 ≡ Some p)
-first_of [] some = absurd (omega (arith, some))
-first_of (p ∷ ps) some = (p, refl)
 
 -- ---- Of an array
 

@@ -16,7 +16,7 @@ use Rattle.h5w_chunks.specs.Early.{RowsStand}
 use Rattle.h5w_chunks.specs.Grids.{cells_of}
 use Rattle.h5w_chunks.specs.Rows.{ChunksApart}
 use Rattle.h5w_header_laws.specs.Files.{with_index}
-use Rattle.h5w_steps.specs.Moments.{Moment}
+use Rattle.h5w_steps.specs.Moments.{Moment, reading_of}
 use Rattle.h5w_steps.specs.Logs.{image_now}
 use Rattle.h5w_flush_laws.specs.Parts.{IsFlush, flushed_to}
 use Rattle.h5w_flush_laws.specs.Spaces.{extent_of}
@@ -30,19 +30,20 @@ use Rattle.h5w_index.proofs.MarkLemmas.{mark_laws}
 use Rattle.h5w_index.proofs.RaisedLemmas.{raised_more, raised_none, raised_on}
 use Rattle.h5w_creation_laws.specs.CreatedFiles.{index_len}
 use Rattle.h5w_creation_laws.proofs.SizeLemmas.{index_lens}
-use Rattle.h5w_session.specs.Sessions.{AllEndBy, IsRoomy, IsUnmade, Session, cutting_of, most_lines, rows_of, with_rows}
+use Rattle.h5w_session.specs.Sessions.{AllEndBy, IsRoomy, Session, cutting_of, most_lines, rows_of, with_rows}
 use Rattle.h5w_session.specs.Loads.{NoPlace}
 use Rattle.h5w_session.specs.PartLaws.{HasNoPlace, IsPartFlushed, RunsAs}
-use Rattle.h5w_session.specs.Past.{IsMadeHere, IsNew, Past}
+use Rattle.h5w_session.specs.Past.{AllAddressed, IsMadeHere, Past}
 use Rattle.h5w_session.specs.Refusals.{IsFullFor, IsUnfilled, IsUnplaced, no_block, no_header}
 use Rattle.h5w_session.specs.Stands.{Running, Stands}
 use Rattle.h5w_session.specs.Starts.{HasFlushed, IsMadeAt, IsStartFlushed, StartRunning, naming_piece, started_of}
 use Rattle.h5w_session.proofs.FlushStands.{idle_running}
 use Rattle.h5w_session.proofs.FlushLemmas.{told_of}
-use Rattle.h5w_session.proofs.HeaderAlone.{made_there, made_whole, never, same_block}
+use Rattle.h5w_session.proofs.HeaderAlone.{made_there, made_whole, same_block}
 use Rattle.h5w_session.proofs.IndexLemmas.{kept_starting}
 use Rattle.h5w_session.proofs.LoadLemmas.{at_most, counted, flush_bound, flush_carries, load_is, part_no_place, planned_few, planned_own, planned_raised, planned_roomy, refused_bound}
-use Rattle.h5w_session.proofs.PastLemmas.{IsLike, new_named, past_planned}
+use Rattle.h5w_session.proofs.NextLemmas.{start_addressed}
+use Rattle.h5w_session.proofs.PastLemmas.{IsLike, past_planned}
 use Rattle.h5w_session.proofs.PlannedRows.{planned_stand}
 use Rattle.h5w_session.proofs.ReachedLemmas.{any_reached}
 use Rattle.h5w_session.proofs.StartedLemmas.{after_start, none_then, start_as, start_running, started_parts}
@@ -63,7 +64,7 @@ like_started old new x limit own roomy =
     }
 
 -- an index that was just made is clean
-made_clean : (address : ℕ) (s : Space) (at : ℕ) (v : IndexView) (t : Space) → IsMadeAt address s at v t → IsClean v
+pub made_clean : (address : ℕ) (s : Space) (at : ℕ) (v : IndexView) (t : Space) → IsMadeAt address s at v t → IsClean v
 made_clean address s at (an_array v) t made = made.is_made.created.changed
 made_clean address s at (a_tree place v) t made = subst (λ (w : Index). IsClean (a_tree place w)) (sym made.empty) refl
 
@@ -126,10 +127,9 @@ module _ (old new : Session) (log : Log) (x : IsStartFlushed old new) (running :
   stand =
       planned_stand (image_now log) old x.made x.first new.index new.places x.planned r.address r.rest r.early r.more r.written r.some r.waiting r.fit r.count (counted old r.past.counted).cut
 
-  -- a file that the session created has its index
-  not_new : IsNew log → IsUnmade old → ⊥
-  not_new new_log (inl none) = new_named old [] log r.after new_log r.past none
-  not_new new_log (inr lacking) = never (has_no_block old.index) lacking (r.past.own new_log).1
+  addressed_then : log.values ≡ [] → AllAddressed (reading_of (after_start old new log x before stand))
+  unfolding before
+  addressed_then bare = start_addressed old new log x r bare (none_then old new log x before stand) (r.early ++ r.more)
 
   past_started : AllEndBy new.places.end new.pending → Past new new.pending (and_now (plans (length new.pending)) log) (after_start old new log x before stand)
   past_started within =
@@ -140,8 +140,7 @@ module _ (old new : Session) (log : Log) (x : IsStartFlushed old new) (running :
         same_block x.made new.index blocks ∙ made_whole address old.places x.at x.made x.first x.start.made (r.written.taken.taken.stays_live (extent_of the_superblock) (r.knows.live the_superblock (inl refl))),
       ) in
       let roomy : IsRoomy old.dataset new.index = planned_roomy old x.made x.first new.index new.places x.planned (made_roomy old.dataset old.dataset.layout.address old.places x.at x.made x.first x.start.made) in
-      past_planned old new (length new.pending) new.pending log r.after (after_start old new log x before stand) (like_started old new x start_raised.limit (λ o. own) (λ o. roomy)) start_raised within (λ new_log. absurd (not_new new_log x.unmade))
-      r.past
+      past_planned old new (length new.pending) new.pending log r.after (after_start old new log x before stand) (like_started old new x start_raised.limit (λ o. own) (λ o. roomy)) start_raised within addressed_then r.past
 
   -- the same of the session as the relation says it
   own_past : AllEndBy new.places.end new.pending → Past (started_of old x.at x.naming new.places new.pending new.index) new.pending (and_now (plans (length new.pending)) log) (after_start old new log x before stand)

@@ -18,10 +18,10 @@ use Rattle.h5w_array_laws.proofs.NamingLemmas.{part_moved}
 use Rattle.h5w_flush_laws.specs.Knowledge.{Knows}
 use Rattle.h5w_flush_laws.specs.Rows.{new_chunks}
 use Rattle.h5w_flush_laws.specs.Spaces.{Taken}
+use Rattle.h5w_flush_laws.specs.Chunks.{chunks_for}
 use Rattle.h5w_flush_laws.proofs.ChunkPlaceLemmas.{places_apart}
 use Rattle.h5w_flush_laws.proofs.NewChunkLemmas.{new_joined}
 use Rattle.h5w_flush_laws.proofs.SpaceLemmas.{taken_laws}
-use Rattle.h5w_array_flushes.specs.ArrayFlushes.{chunks_for}
 use Rattle.h5w_starting_laws.specs.Starting.{no_chunk}
 use Rattle.h5w_starting_laws.proofs.StartCallLemmas.{two_taken}
 use Rattle.h5w_starting_laws.proofs.TakenLemmas.{taken_again, taken_right}

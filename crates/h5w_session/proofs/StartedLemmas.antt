@@ -32,7 +32,6 @@ use Rattle.h5w_flush_laws.specs.Knowledge.{KnownHeld}
 use Rattle.h5w_flush_laws.specs.Parts.{AreEnded}
 use Rattle.h5w_flush_laws.specs.Rows.{IsOutside, IsPlaced, new_chunks}
 use Rattle.h5w_flush_laws.specs.Spaces.{Taken}
-use Rattle.h5w_array_flushes.specs.ArrayFlushes.{chunks_for}
 use Rattle.h5w_starting_laws.specs.Starting.{no_chunk}
 use Rattle.h5w_index.specs.Views.{address_in, header_place}
 use Rattle.h5w_index.specs.Flushes.{PlanTold}
@@ -43,6 +42,7 @@ use Rattle.h5w_session.specs.PartLaws.{RunsAs}
 use Rattle.h5w_session.specs.Past.{Past}
 use Rattle.h5w_session.specs.Stands.{Running}
 use Rattle.h5w_pieces.specs.Joined.{AreJoined, IsNaming}
+use Rattle.h5w_flush_laws.specs.Chunks.{chunks_for}
 use Rattle.h5w_session.specs.Starts.{IsMadeAt, IsStartFlushed, StartRunning, naming_piece, started_of}
 use Rattle.h5w_block_laws.specs.HeaderAlone.{IsHeaderAlone}
 use Rattle.h5w_session.specs.Indexes.{Lacks, an_index, a_block}

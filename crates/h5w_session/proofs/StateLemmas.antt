@@ -4,9 +4,10 @@ use Rattle.std.proofs.lemmas.Bool.{cases_lt, lt-ltb, le-ltb}
 use Rattle.std.proofs.lemmas.Nat.{mul-le, div-mul-add}
 use Rattle.std.proofs.lemmas.List.{drop_all}
 use Rattle.std.proofs.Math.Seq.{drop-cons}
-use Rattle.std.specs.Option.{MatchOption, IfSome}
+use Rattle.std.specs.Option.{MatchOption, IfSome, unwrap_or}
 use Rattle.std.proofs.Common.{Bor}
 use Rattle.std.specs.Int.{div_ceil}
+use Rattle.std.specs.Prelude.{slice_get}
 use Rattle.h5w_model.specs.Images.{AllSized}
 use Rattle.h5w_model.specs.Logs.{div_up}
 use Rattle.h5w_model.specs.Lawful.{first_outside}
@@ -165,7 +166,7 @@ chunks_fit s more none =
       | inr few ↦ few
     ]
 
-none_pending : (ws : List Write) → nat_lt 0 (length ws) ≡ false → ws ≡ []
+pub none_pending : (ws : List Write) → nat_lt 0 (length ws) ≡ false → ws ≡ []
 none_pending [] e = refl
 none_pending (w ∷ ws) e = let clash : true ≡ false = sym (lt-ltb 0 (length (w ∷ ws)) (omega arith)) ∙ e in cc
 
@@ -175,7 +176,7 @@ accepted_by s values none =
     let by = none_applies s.stopped (nat_lt 0 (length s.pending)) (length s.pending) (first_outside s.dataset.int_type 0 values) (chunks_refusal s more) none in
     record { running = by.running; idle = none_pending s.pending by.idle; fit = by.fit; room = chunks_fit s more by.room }
 
-none_refused : {E : Type 0} (refusal : Option E) (r : Result (Unit {0}) E) → MatchOption refusal (r ≡ Ok tt) (λ e. r ≡ Err e) → r ≡ Ok tt → refusal ≡ None
+pub none_refused : {E : Type 0} (refusal : Option E) (r : Result (Unit {0}) E) → MatchOption refusal (r ≡ Ok tt) (λ e. r ≡ Err e) → r ≡ Ok tt → refusal ≡ None
 none_refused None r is ok = refl
 none_refused (Some e) r is ok = let clash : Err e ≡ Ok tt = sym is ∙ ok in cc
 
@@ -396,3 +397,10 @@ pub told_within : (end : ℕ) (ws : List Write) (k : ℕ) (o : Option (Bor Write
     → MatchOption o A (λ (x : Bor Write). (k < length ws) × B x) → IfSome o (λ (x : Bor Write). x.now.at + length x.now.piece ≤ end)
 told_within end ws k None A B within is inside = tt
 told_within end ws k (Some x) A B within is inside = subst (λ (w : Write). w.at + length w.piece ≤ end) (sym is) (within_at end ws k x.now within inside.0)
+
+pub some_is : {A : Type 0} (a b : A) → Some a ≡ Some b → a ≡ b
+some_is a b same = ap (λ o. unwrap_or o a) same
+
+pub oldest : (w : Write) (ws : List Write) → Some w ≡ slice_get ws 0 → ws ≡ w ∷ drop 1 ws
+oldest w [] none = cc
+oldest w (x ∷ xs) same = ap (λ y. y ∷ xs) (sym (some_is w x same))

@@ -1,6 +1,6 @@
 -- Steps of the functions that take chunks.
 use Rattle.std.proofs.Common.{◌≡◌, ◌≢◌, ◌⊎◌, refl, ℕ, suc, ◌+◌, ◌*◌, ◌^◌, ◌<◌, ◌≤◌, true, false, [], ◌∷◌, ◌++◌, nat_lt, if◌then◌else◌, length, replicate, Option, Some, None, Result, Ok, Err, sym, ap, subst, ◌∙◌, inl, inr, arith}
-use Rattle.std.specs.Result.{IfErr, OnErr, OnOk}
+use Rattle.std.specs.Result.{IfErr, OnErr}
 use Rattle.std.specs.Option.{IfSome, option_map, unwrap_or}
 use Rattle.std.proofs.lemmas.List.{length-replicate, length-take-le}
 use Rattle.std.proofs.lemmas.Bool.{cases_Bool, cases_eq, cases_lt, eq-eqb, lt-ltb, ne_eqb}
@@ -55,11 +55,6 @@ use Rattle.h5w_session.specs.declared.refusal.FlushError.TheVariants as flushes
 pub on_err : {T E P : Type 0} (r : Result T E) → P → OnErr r P
 on_err (Ok x) p = tt
 on_err (Err e) p = p
-
--- what follows of what holds of a value
-pub map_ok : {T E P Q : Type 0} (r : Result T E) → (P → Q) → OnOk r P → OnOk r Q
-map_ok (Ok x) f p = f p
-map_ok (Err e) f p = tt
 
 pub found_some : (a x : ℕ) → found a ≡ Some x → (a ≡ x) × (a ≢ undefined)
 found_some a x is =

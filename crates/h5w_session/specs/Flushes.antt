@@ -14,7 +14,7 @@ use Rattle.h5w_chunks.specs.Rows.{RowsWritten}
 use Rattle.h5w_chunks.specs.declared.grid.ChunkPlace.{ChunkPlace}
 use Rattle.h5w_flush_laws.specs.Parts.{AreEnded}
 use Rattle.h5w_index.specs.Views.{IndexView, address_in}
-use Rattle.h5w_index.specs.Steps.{IsBegun, IsPlan}
+use Rattle.h5w_index.specs.Steps.{IsBegun, IsPlan, ListsOnce}
 use Rattle.h5w_index.specs.declared.begun.Begun.{Begun}
 use Rattle.h5w_index.specs.Naming.{AreNamed, AreTakenBehind}
 use Rattle.h5w_index.specs.Placing.{Fits, IsPartly}
@@ -60,6 +60,8 @@ pub record IsPrepared (d : Described) (to : ℕ) (v : IndexView) (early : List C
   pub names : AreNamed d to v chunks added named
   pub taken : AreTakenBehind d (λ key. address_in v key) early before chunks between
   pub begun : IsBegun named between b t
+  -- so that the plan takes no more than a place for each changed block
+  pub once : ListsOnce named
 
 -- What a flush shows of the chunks that the rows that no flush has planned go into, over an index and places: each chunk in the order of its
 -- key, with its place, first those of rows that were written early; the places once the new ones are taken; the index once it names them;

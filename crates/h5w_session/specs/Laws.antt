@@ -16,10 +16,23 @@ use Rattle.h5w_array_laws.specs.ArrayStores.{IsMaxSet, block_at_part, bytes_at_p
 use Rattle.h5w_flush_laws.specs.Knowledge.{IsMap}
 use Rattle.h5w_index.specs.Views.{an_array, address_in}
 use Rattle.h5w_index.specs.Placing.{IsOwn}
-use Rattle.h5w_session.specs.Past.{HasOpened, IsNew}
+use Rattle.h5w_session.specs.Past.{AllAddressed, HasOpened, IsNew}
 use Rattle.h5w_session.specs.Room.{HasRoomFor}
 use Rattle.h5w_session.specs.Sessions.{Session, AfterPiece, chunk_limit, cutting_of, rows_of, IsNamed}
 use Rattle.h5w_session.specs.Stands.{Stands}
+
+-- What every reading of a session's image says, but for its rows and addresses.
+pub record IsDatasetOf (s : Session) (r : Reading) : Type 0 where
+  pub place : r.place ≡ s.place
+  pub rank : r.dataset.shape.rank ≡ s.dataset.shape.rank
+  pub columns : r.dataset.shape.cols ≡ s.dataset.shape.cols
+  pub growing : r.dataset.shape.growing ≡ s.dataset.shape.growing
+  pub int_type : r.dataset.int_type ≡ s.dataset.int_type
+  pub fill : r.dataset.fill ≡ s.dataset.fill
+  pub index : r.dataset.layout.index ≡ s.dataset.layout.index
+  pub chunk_rows : r.dataset.layout.chunk_rows ≡ s.dataset.layout.chunk_rows
+  pub chunk_columns : r.dataset.layout.chunk_cols ≡ s.dataset.layout.chunk_cols
+  pub needed : needed r.dataset ≡ needed_chunks (cutting_of s) r.dataset.shape.rows
 
 -- The log of a session is new, over no bytes and no values, and a reader finds a file once the pieces of its creation
 -- are shown; or it began over a file that was opened. The columns are the dataset's, at least one. The session tells of its log how many rows are flushed and appended. At each position the image is valid
@@ -27,7 +40,8 @@ use Rattle.h5w_session.specs.Stands.{Stands}
 -- is pending in a session that was not stopped, the image reads as all rows that were planned. The image of a session that was
 -- stopped, once a reader finds a file in it, is valid and reads as the rows that are flushed, whatever the pieces were that were
 -- dropped. The limit is one that a file may have. No image is longer than the limit or than the file that the log began with, whichever
--- is more, and none needs more chunks than an index of its kind can have.
+-- is more, and none needs more chunks than an index of its kind can have. Whatever an image shows is a dataset of the session's shape. Where the
+-- log began without values each needed chunk has an address.
 pub record StandingLaws : Type 0 where
   pub begun : (s : Session) (log : Log) → Stands s log → IsNew log ⊎ HasOpened s log
   pub columns : (s : Session) (log : Log) → Stands s log → log.columns ≡ s.dataset.shape.cols
@@ -44,21 +58,11 @@ pub record StandingLaws : Type 0 where
   pub limited : (s : Session) (log : Log) → Stands s log → s.places.limit ≤ 2 ^ 40
   pub fits : (s : Session) (log : Log) (p : ℕ) → Stands s log → IsPosition log p → length (image_at log p) ≤ max s.places.limit (length log.start)
   pub within : (s : Session) (log : Log) (p : ℕ) (r : Reading) → Stands s log → IsPosition log p → Shows format_limits (image_at log p) s.name r → needed r.dataset ≤ limit_of format_limits r.dataset.layout.index
+  pub dataset : (s : Session) (log : Log) (p : ℕ) (r : Reading) → Stands s log → IsPosition log p → Shows format_limits (image_at log p) s.name r → IsDatasetOf s r
+  pub few : (s : Session) (log : Log) (p : ℕ) (r : Reading) → Stands s log → IsPosition log p → Shows format_limits (image_at log p) s.name r → needed r.dataset ≤ chunk_limit s
+  pub addressed : (s : Session) (log : Log) (p : ℕ) (r : Reading) → Stands s log → log.values ≡ [] → IsPosition log p → Shows format_limits (image_at log p) s.name r → AllAddressed r
 
 -- ---- What readers find
-
--- What every reading of a session's image says, but for its rows and addresses.
-pub record IsDatasetOf (s : Session) (r : Reading) : Type 0 where
-  pub place : r.place ≡ s.place
-  pub rank : r.dataset.shape.rank ≡ s.dataset.shape.rank
-  pub columns : r.dataset.shape.cols ≡ s.dataset.shape.cols
-  pub growing : r.dataset.shape.growing ≡ s.dataset.shape.growing
-  pub int_type : r.dataset.int_type ≡ s.dataset.int_type
-  pub fill : r.dataset.fill ≡ s.dataset.fill
-  pub index : r.dataset.layout.index ≡ s.dataset.layout.index
-  pub chunk_rows : r.dataset.layout.chunk_rows ≡ s.dataset.layout.chunk_rows
-  pub chunk_columns : r.dataset.layout.chunk_cols ≡ s.dataset.layout.chunk_cols
-  pub needed : needed r.dataset ≡ needed_chunks (cutting_of s) r.dataset.shape.rows
 
 -- What an array's header says on the image: it stands where the dataset has it, the array's map is the file's, each block that is kept stands
 -- at its place, and the six numbers count these blocks and chunks: the secondary blocks and their bytes, the data blocks and their bytes, one

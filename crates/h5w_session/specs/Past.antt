@@ -1,5 +1,5 @@
 -- What a session keeps of the positions of its log, and of the bounds of its file.
-use Rattle.std.specs.Prelude.{◌≡◌, ◌≢◌, ◌⊎◌, ℕ, ◌+◌, ◌*◌, ◌^◌, ◌<◌, ◌≤◌, max, List, ◌++◌, length, get_or, take, false}
+use Rattle.std.specs.Prelude.{◌≡◌, ◌≢◌, ◌⊎◌, ℕ, ◌+◌, ◌*◌, ◌^◌, ◌<◌, ◌≤◌, max, List, [], ◌++◌, length, get_or, take, false}
 use Rattle.h5w_model.specs.Numbers.{undefined}
 use Rattle.h5w_model.specs.Logs.{Log, hist, rows_in, spent}
 use Rattle.h5w_model.specs.Prefixed.{IsPosition, image_at}
@@ -66,15 +66,15 @@ pub record IsCounted (d : Described) : Type 0 where
 abbrev pub IsMadeHere : IndexView → Type 0
 IsMadeHere v = IsOwn v × (has_no_block v ≡ false)
 
--- How the log began; in a file that the session created, at each position each needed chunk has an address, and so it has at the moment
--- to which the pieces left lead, and its index is one as it is made here; and the file's end and all pieces are bounded.
+-- How the log began; in a file that had no rows then, at each position each needed chunk has an address, and so it has at the moment to which
+-- the pieces left lead; in one that the session created the index is one as it is made here; and the file's end and all pieces are bounded.
 pub record Past (s : Session) (left : List Write) (log : Log) (after : Moment) : Type 0 where
   pub begun : HasCreated s log ⊎ HasOpened s log
   pub counted : IsCounted s.dataset
   pub limit_low : 1024 ≤ s.places.limit
   pub limit_high : s.places.limit ≤ 2 ^ 40
-  pub addressed : IsNew log → (p : ℕ) (r : Reading) → IsPosition log p → Shows format_limits (image_at log p) s.name r → AllAddressed r
-  pub next : IsNew log → AllAddressed (reading_of after)
+  pub addressed : log.values ≡ [] → (p : ℕ) (r : Reading) → IsPosition log p → Shows format_limits (image_at log p) s.name r → AllAddressed r
+  pub next : log.values ≡ [] → AllAddressed (reading_of after)
   pub own : IsNew log → IsMadeHere s.index
   -- once the session brought rows, or where it was so before, readers look for each chunk that the rows need and that has an address
   pub reach : ReachedFrom (rows_in log log.values) log.start s

@@ -1,22 +1,15 @@
 -- A session's pieces become visible one after another: what each of them leaves.
-use Rattle.std.proofs.Common.{◌≡◌, ℕ, ◌<◌, Bool, true, false, List, [], ◌∷◌, length, Option, Some, None, sym, refl, ap, arith}
-use Rattle.std.specs.Option.{unwrap_or}
-use Rattle.std.specs.Prelude.{slice_get, drop}
+use Rattle.std.proofs.Common.{◌≡◌, ◌<◌, Bool, true, false, List, [], ◌∷◌, length, Option, Some, None, refl, ap, arith}
+use Rattle.std.specs.Prelude.{slice_get}
 use Rattle.h5w_model.specs.declared.piece.Write.{Write}
 use Rattle.h5w_space.specs.Space.{Space}
 use Rattle.h5w_session.specs.Sessions.{AfterPiece, Freed, Session, Settles}
-
-pub some_is : {A : Type 0} (a b : A) → Some a ≡ Some b → a ≡ b
-some_is a b same = ap (λ o. unwrap_or o a) same
+pub use Rattle.h5w_session.proofs.StateLemmas.{some_is, oldest}
 
 pub none_some : {A : Type 0} (a : A) → ◌≡◌ {A = Option A} None (Some a) → ⊥
 none_some a e = cc
 
 -- ---- The oldest of some pieces
-
-pub oldest : (w : Write) (ws : List Write) → Some w ≡ slice_get ws 0 → ws ≡ w ∷ drop 1 ws
-oldest w [] none = cc
-oldest w (x ∷ xs) same = ap (λ y. y ∷ xs) (sym (some_is w x same))
 
 pub no_piece : (ws : List Write) → None ≡ slice_get ws 0 → ws ≡ []
 no_piece [] none = refl

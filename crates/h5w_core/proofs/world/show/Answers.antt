@@ -1,8 +1,8 @@
 use Rattle.std.proofs.Common.{drop}
 use Rattle.h5w_session.proofs.LawLemmas.{room_stays}
 use Rattle.h5w_steady.specs.Steady.{steady}
+use Rattle.h5w_session.proofs.StateLemmas.{oldest}
 use Rattle.h5w_core.proofs.world.show.Goals as goal
-use Rattle.h5w_session_laws.proofs.PieceLemmas.{oldest}
 
 pub returns-clause-room : goal.returns-clause-room
 returns-clause-room c =

@@ -102,4 +102,5 @@ returns-clause-prepared c =
       names = c.in_ok-place_chunks.ensures.named v c.requires.fits named;
       taken = c.in_ok-place_chunks.ensures.taken v a.early.now a.taking.now.places c.requires.fits c.requires.inside named taken;
       begun = c.in_ok-begun.ensures.begun;
+      once = c.begin.ensures.once;
     }

@@ -1,9 +1,10 @@
 use Rattle.std.proofs.Common.{rules, ◌≡◌, ◌≢◌}
 use Rattle.h5w_model.specs.Numbers.{undefined}
+use Rattle.h5w_laws.proofs.ResultLemmas.{map_ok}
 use Rattle.h5w_index.specs.Held.{view_of}
 use Rattle.h5w_index.specs.Views.{address_in}
 use Rattle.h5w_index.proofs.PlacingLemmas.{placing_laws}
-use Rattle.h5w_session.proofs.TakingLemmas.{early_first, early_there, map_ok, named_there, on_err}
+use Rattle.h5w_session.proofs.TakingLemmas.{early_first, early_there, named_there, on_err}
 use Rattle.h5w_session.proofs.taking.name_chunk.Goals as goal
 
 pub returns-in_err-keep-clause-partly : goal.returns-in_err-keep-clause-partly

@@ -2,12 +2,13 @@ use Rattle.std.proofs.Common.{◌≢◌, ℕ, ◌*◌, ◌≤◌, nat_lt, sym, �
 use Rattle.h5w_model.specs.Numbers.{undefined}
 use Rattle.h5w_chunks.specs.Grids.{dataset_of}
 use Rattle.h5w_chunks.specs.declared.grid.ChunkPlace.{ChunkPlace}
+use Rattle.h5w_laws.proofs.ResultLemmas.{map_ok}
 use Rattle.h5w_index.specs.Held.{view_of}
 use Rattle.h5w_index.specs.Views.{address_in}
 use Rattle.h5w_index.proofs.DepthLemmas.{depth_laws}
 use Rattle.h5w_index.proofs.PlacingLemmas.{placing_laws}
 use Rattle.h5w_index.proofs.ToldLemmas.{held_tells}
-use Rattle.h5w_session.proofs.TakingLemmas.{found_none, found_some, map_ok, named_there, not_less, on_err, taken_there}
+use Rattle.h5w_session.proofs.TakingLemmas.{found_none, found_some, named_there, not_less, on_err, taken_there}
 use Rattle.h5w_session.proofs.taking.place_chunk.Goals as goal
 
 pub reach-requires-clause-defined : goal.reach-requires-clause-defined
