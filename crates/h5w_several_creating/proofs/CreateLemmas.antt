@@ -19,7 +19,7 @@ use Rattle.h5w_session.specs.Sessions.{Session}
 use Rattle.h5w_several_session.specs.Opened.{AreOpened, sessions_at_rest}
 use Rattle.h5w_several_session_laws.specs.Sessions.{Sessions}
 use Rattle.h5w_several_session_laws.specs.Standing.{StandsAll}
-use Rattle.h5w_several_creating.specs.Created.{IsCreatedAll, created_all, created_file, created_parts, leading, led, shown_file}
+use Rattle.h5w_several_creating.specs.Created.{IsCreatedAll, IsShownAll, created_all, created_file, created_parts, leading, led, shown_file}
 use Rattle.h5w_several_creating.specs.Parts.{AddsParts, IsMold}
 use Rattle.h5w_several_creating.specs.declared.parts.Mold.{Mold}
 use Rattle.h5w_several_creating.proofs.SessionLemmas.{all_opened, all_rest, many_over}
@@ -27,7 +27,7 @@ use Rattle.h5w_several_creating.proofs.StandLemmas.{creates_each, creates_standi
 
 -- ---- The datasets
 
-as_many : (names : List (List ℕ)) (form : Form) → length (all_by names form) ≡ length names
+pub as_many : (names : List (List ℕ)) (form : Form) → length (all_by names form) ≡ length names
 as_many [] form = refl
 as_many (name ∷ names) form = ap suc (as_many names form)
 
@@ -39,7 +39,7 @@ all_named : (names : List (List ℕ)) (form : Form) → AllNamed names → AllNa
 all_named [] form x = tt
 all_named (name ∷ names) form x = (each_named (λ (other : List ℕ). name ≢ other) names form x.0, all_named names form x.1)
 
-are_creatable : (names : List (List ℕ)) (form : Form) → IsForm form → AreNames names → AllNamed names → AreCreatable (all_by names form)
+pub are_creatable : (names : List (List ℕ)) (form : Form) → IsForm form → AreNames names → AllNamed names → AreCreatable (all_by names form)
 are_creatable names form is are named =
     let many = as_many names form in
     let some = are.some in
@@ -101,6 +101,9 @@ module _ (names : List (List ℕ)) (m : Mold) (new : List Session) (S : Sessions
 
   pub is_created : (ws : List Write) → ws ≡ created_writes fs → IsCreatedAll fs m.limit m.budget (led ws S)
   is_created ws all = record { indexes = x.indexes; are = x.are; is = ap (led ws) made ∙ ap (λ (us : List Write). led us (with_root (super_of 5 fs))) all }
+
+  pub is_shown : IsShownAll fs m.limit m.budget S
+  is_shown = record { indexes = x.indexes; are = x.are; is = made }
 
   fits : 1024 * length fs ≤ m.limit
   fits = subst (λ (n : ℕ). 1024 * n ≤ m.limit) (sym (as_many names m.form)) low

@@ -1,6 +1,6 @@
 -- The sessions that begin over the datasets of a new file.
 use Rattle.std.proofs.Common.{◌≡◌, ℕ, suc, ◌+◌, ◌^◌, ◌<◌, ◌≤◌, false, List, [], ◌∷◌, ◌++◌, length, refl, sym, ◌∙◌, ap, subst, inl, inr, arith, append_assoc}
-use Rattle.std.specs.Prelude.{IfOk, OnOk, Result, Ok, Err}
+use Rattle.std.specs.Prelude.{OnOk, Result, Ok, Err}
 use Rattle.std.proofs.lemmas.List.Elements.{All-nil}
 use Rattle.h5w_model.specs.Arrays.{eahd_len}
 use Rattle.h5w_model.specs.Datasets.{Described}
@@ -103,11 +103,6 @@ over_with m place name d header v = record (over_part m place name v) { header =
 
 pub over_is : (m : Mold) (place : ℕ) (name : List ℕ) (d : Described) (header : List ℕ) (v : IndexView) → d ≡ described_at place (created_by name m.form) → header ≡ spelled_header d → over_with m place name d header v ≡ over_part m place name v
 over_is m place name d header v is spelled = λ k. record (over_part m place name v) { header = (spelled ∙ ap spelled_header is) k; dataset = is k; committed = (is k).shape.rows }
-
-pub part_answer : {E : Type 0} (m : Mold) (place : ℕ) (name : List ℕ) (x : Session) (v : IndexView) (r : Result Session E) → x ≡ over_part m place name v → IsSound v
-    → IsNewIndex m.form.index (index_behind place (created_by name m.form)) (block_behind place (created_by name m.form)) v → IfOk r (λ s. s ≡ x) → IfOk r (IsPartOver m place name)
-part_answer m place name x v (Ok s) is sound new e = record { index = v; sound = sound; new = new; is = e ∙ is }
-part_answer m place name x v (Err e) is sound new h = tt
 
 -- ---- All of them
 

@@ -43,7 +43,7 @@ use Rattle.h5w_several_creating.proofs.PartLemmas.{is_entry, part_entry, read_he
 
 -- ---- Lists
 
-none_pending : (root : Super) (t : Space) (budget place : ℕ) (gs : List CreatedFile) (vs : List IndexView) → all_pending (created_parts root t budget place gs vs) ≡ []
+pub none_pending : (root : Super) (t : Space) (budget place : ℕ) (gs : List CreatedFile) (vs : List IndexView) → all_pending (created_parts root t budget place gs vs) ≡ []
 none_pending root t budget place [] vs = refl
 none_pending root t budget place (f ∷ gs) [] = refl
 none_pending root t budget place (f ∷ gs) (v ∷ vs) = none_pending root t budget (end_behind place f) gs vs
@@ -56,12 +56,12 @@ led_pending ws (s ∷ ss) some none = ap (λ (us : List Write). ws ++ us) (behin
     behind [] vs e = e
     behind (u ∷ us) vs e = cc
 
-many_parts : (root : Super) (t : Space) (budget place : ℕ) (gs : List CreatedFile) (vs : List IndexView) → AreIndexes place gs vs → length (created_parts root t budget place gs vs) ≡ length gs
+pub many_parts : (root : Super) (t : Space) (budget place : ℕ) (gs : List CreatedFile) (vs : List IndexView) → AreIndexes place gs vs → length (created_parts root t budget place gs vs) ≡ length gs
 many_parts root t budget place [] vs x = refl
 many_parts root t budget place (f ∷ gs) [] x = absurd x
 many_parts root t budget place (f ∷ gs) (v ∷ vs) x = ap suc (many_parts root t budget (end_behind place f) gs vs x.1)
 
-many_begun : (fs : List CreatedFile) → length (map begun_of fs) ≡ length fs
+pub many_begun : (fs : List CreatedFile) → length (map begun_of fs) ≡ length fs
 many_begun [] = refl
 many_begun (f ∷ fs) = ap suc (many_begun fs)
 

@@ -76,6 +76,16 @@ created_all fs limit budget vs = record {
   keeps = false;
 }
 
+-- the session of such a file once all of them are shown
+abbrev pub shown_all : List CreatedFile → (limit budget : ℕ) → List IndexView → Sessions
+shown_all fs limit budget vs = record {
+  root = super_of 5 fs;
+  places = places_to (end_of fs) limit;
+  parts = created_parts (super_of 5 fs) (places_to (end_of fs) limit) budget (first_place fs) fs vs;
+  stopped = false;
+  keeps = false;
+}
+
 -- these pieces are shown, one after another
 abbrev pub showing_all : List Write → List Happened → List Happened
 showing_all [] es = es
@@ -92,3 +102,9 @@ pub record IsCreatedAll (fs : List CreatedFile) (limit budget : ℕ) (S : Sessio
   pub indexes : List IndexView
   pub are : AreIndexes (first_place fs) fs indexes
   pub is : S ≡ created_all fs limit budget indexes
+
+-- it is that session once they are shown
+pub record IsShownAll (fs : List CreatedFile) (limit budget : ℕ) (S : Sessions) : Type 0 where
+  pub indexes : List IndexView
+  pub are : AreIndexes (first_place fs) fs indexes
+  pub is : S ≡ shown_all fs limit budget indexes

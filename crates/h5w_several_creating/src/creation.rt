@@ -1,10 +1,11 @@
 //! A session of several datasets that creates its file.
-ghost use Rattle.std.specs.Prelude.{◌≡◌, ◌*◌, ◌^◌, ◌≤◌, IfOk, length};
+ghost use Rattle.std.specs.Prelude.{◌≡◌, ◌*◌, ◌^◌, ◌≤◌, [], IfOk, length};
 ghost use Rattle.h5w_creation.specs.Forms.{IsForm};
 ghost use Rattle.h5w_several_creation_laws.specs.SeveralFiles.{AllNamed, created_writes};
 ghost use Rattle.h5w_several_creation.specs.Forms.{AreNames, all_by};
+ghost use Rattle.h5w_several_session_laws.specs.Sessions.{all_pending};
 ghost use Rattle.h5w_several_session_laws.specs.Standing.{StandsAll};
-ghost use Rattle.h5w_several_creating.specs.Created.{IsCreatedAll, created_file, led, shown_file};
+ghost use Rattle.h5w_several_creating.specs.Created.{IsCreatedAll, IsShownAll, created_file, led, shown_file};
 
 use crate::parts::{Mold, add_parts};
 use h5w_creation::{Form, create_file};
@@ -44,8 +45,11 @@ pub fn create(
     // with these pieces pending it is the session that creates the file
     ensures session { IfOk result (λ c. IsCreatedAll (all_by names.now form.now) limit budget (led c.writes.items c.session)) }
     ensures begins { IfOk result (λ c. StandsAll (led c.writes.items c.session) (created_file (all_by names.now form.now))) }
-    // and it stands for the log in which they are shown
+    // by itself it is that session once they are shown
+    ensures shown { IfOk result (λ c. IsShownAll (all_by names.now form.now) limit budget c.session) }
+    // and it stands for the log in which they are
     ensures stands { IfOk result (λ c. StandsAll c.session (shown_file (all_by names.now form.now))) }
+    ensures idle { IfOk result (λ c. all_pending c.session.parts ≡ []) }
 {
     let created = create_files(alloc, names, form)?;
     let one = create_file(alloc, b"a", form)?;

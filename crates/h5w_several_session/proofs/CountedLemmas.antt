@@ -5,6 +5,7 @@ use Rattle.h5w_model.specs.declared.piece.Write.{Write}
 use Rattle.h5w_model.specs.declared.root.Super.{Super}
 use Rattle.h5w_space.specs.Space.{Space}
 use Rattle.h5w_image.specs.View.{ImageView}
+use Rattle.h5w_session.specs.Early.{dirty_of}
 use Rattle.h5w_session.specs.Room.{HasRoomFor}
 use Rattle.h5w_session.specs.Sessions.{IsSession, Session, rows_of, with_values}
 use Rattle.h5w_several_session.specs.Opened.{AreOpened, places_from, rested, sessions_at_rest, sessions_over, settled}
@@ -138,6 +139,11 @@ added_to S d s u values (Err e) at same = tt
 pub rows_at : {E : Type 0} (ss : List Session) (d : ℕ) (u : Session) (r : Result ℕ E) → d < length ss → IfOk r (λ rows. rows ≡ rows_of u) → IfOk r (λ rows. (s : Session) → slice_get (slice_set ss d u) d ≡ Some s → rows ≡ rows_of s)
 rows_at ss d u (Ok rows) inside is = λ s at. is ∙ ap rows_of (same_part (slice_set ss d u) d u s (get_set ss d u inside) at)
 rows_at ss d u (Err e) inside is = tt
+
+-- no more bytes of it wait than the budget has
+pub within_at : {T E : Type 0} (ss : List Session) (d : ℕ) (u : Session) (r : Result T E) → d < length ss → OnOk r (dirty_of u ≤ u.budget) → OnOk r ((s : Session) → slice_get (slice_set ss d u) d ≡ Some s → dirty_of s ≤ s.budget)
+within_at ss d u (Ok x) inside is = λ s at. subst (λ (v : Session). dirty_of v ≤ v.budget) (same_part (slice_set ss d u) d u s (get_set ss d u inside) at) is
+within_at ss d u (Err e) inside is = tt
 
 pub room_at : {T E : Type 0} (S : Sessions) (d : ℕ) (s u : Session) (values : List ℤ) (r : Result T E) (v : ImageView) → AreCounted S → slice_get S.parts d ≡ Some s → length (all_pending S.parts) ≡ 0 → OnOk r (u ≡ with_values s values) → OnOk r (HasRoomFor u v)
     → OnOk r (HasRoomForAll (record S { parts = slice_set S.parts d u }) v)

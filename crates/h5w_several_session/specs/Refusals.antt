@@ -54,7 +54,7 @@ IsFullAmong root t (s ∷ ss) full =
     ⊎ ((m : Session) × (p : Planned) × IsPlannedPart root t s m p × IsFullAmong (record root { end = (places_of m p).end }) (places_of m p) ss full)
 
 -- Rows wait, and the file has no place of this size there, which is no larger than what a plan of all datasets may write. It stands no further than
--- where the file ends, or than the limit.
+-- where the file ends, or than the limit; and no further behind the end than a plan of all datasets may write.
 pub record NoPlaceAll (S : Sessions) (log : FileLog) (full : Full) : Type 0 where
   pub waits : 0 < all_waits S.parts
   pub some : 1 ≤ full.size
@@ -62,6 +62,7 @@ pub record NoPlaceAll (S : Sessions) (log : FileLog) (full : Full) : Type 0 wher
   pub past : full.limit < full.at + full.size
   pub size_bound : full.size ≤ load_all (cuttings_of S.parts) log
   pub at_bound : full.at ≤ max S.places.end S.places.limit
+  pub load_bound : full.at ≤ S.places.end + load_all (cuttings_of S.parts) log
 
 -- the index of one of the parts has no room
 abbrev pub IsDeepAmong : List Session → Type 0

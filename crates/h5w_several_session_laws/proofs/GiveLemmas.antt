@@ -2,15 +2,17 @@
 use Rattle.std.proofs.Common.{◌≡◌, ℕ, zero, suc, ◌+◌, ◌-◌, ◌/◌, ◌<◌, ◌≤◌, max, List, [], ◌∷◌, ◌++◌, length, ℤ, Some, refl, sym, ◌∙◌, ap, subst, inl, inr, arith}
 use Rattle.std.specs.Prelude.{map, slice_get}
 use Rattle.h5w_model.specs.Findings.{Used}
-use Rattle.h5w_model.specs.Logs.{Log, appended, flushed_rows}
+use Rattle.h5w_model.specs.Logs.{Log, appended, flushed_rows, needed_chunks}
 use Rattle.h5w_model.specs.Datasets.{Described}
 use Rattle.h5w_model.specs.Prefixed.{Held, IsPosition, Prefixed, PrefixedEach, ReadsNow, Still, image_at}
 use Rattle.h5w_model.specs.Several.{Begun, FileLog, log_of}
+use Rattle.h5w_model.specs.Tables.{Reading, Shows, format_limits, limit_of, needed}
 use Rattle.h5w_model.specs.declared.piece.Write.{Write}
 use Rattle.h5w_model.specs.declared.root.Super.{Super}
 use Rattle.h5w_laws.proofs.LogLemmas.{each_gives_prefixed}
 use Rattle.h5w_space.specs.Space.{Space}
 use Rattle.h5w_several_laws.specs.Turns.{Entry}
+use Rattle.h5w_session.specs.Laws.{IsDatasetOf}
 use Rattle.h5w_session.specs.Sessions.{Session, rows_of, stopped_of}
 use Rattle.h5w_session.specs.Stands.{Running, Stands}
 use Rattle.h5w_session.proofs.LawLemmas.{standing_laws}
@@ -24,6 +26,16 @@ use Rattle.h5w_several_session_laws.proofs.SeenLemmas.{all_rows, held_seen, many
 use Rattle.h5w_several_session_laws.proofs.FlushAllLemmas.{back_nil, front_nil, goes_on}
 
 -- ---- One part
+
+-- what the file shows at a position, and the part's own log at one of its own
+shown_own : (name : List ℕ) (log : FileLog) (d : ℕ) (b : Begun) (l : Log) (later : List Write) → IsSeen log d b l later → (p : ℕ) (r : Reading) → IsPosition (log_of d b log) p → Shows format_limits (image_at (log_of d b log) p) name r
+    → (q : ℕ) × IsPosition l q × Shows format_limits (image_at l q) name r
+shown_own name log d b l later seen p r at shows =
+    let o = part_seen.position log d b l later seen p at in
+    let q : ℕ = p - length seen.lead in
+    let img = part_seen.images log d b l later seen q (let n = many_seen log d b l later seen in omega (arith, at.reached, n, o.is)) in
+    let here = ap (image_at (log_of d b log)) o.is in
+    (q, o.own, subst (λ (i : List ℕ). Shows format_limits i name r) (here ∙ sym img) shows)
 
 -- a session that runs over a part's own log, with what is left of its pieces
 runs_tell : (log : FileLog) (d : ℕ) (b : Begun) (l : Log) (later left : List Write) (s : Session) → IsSeen log d b l later → left ≡ s.pending → Running s left l → PrefixedEach s.name (log_of d b log) → PartTells log d b s
@@ -41,11 +53,32 @@ runs_tell log d b l later left s seen is r each =
       still = still_seen log d b l later seen s.name goes.still;
       held = held_seen log d b l later seen s.name prefixed goes.still;
       now = now_seen log d b l later seen s.name goes.prefixed;
+      dataset = λ p r at shows. let o = shown_own s.name log d b l later seen p r at shows in standing_laws.dataset s l o.0 r st o.1 o.2;
+      few = λ p r at shows. let o = shown_own s.name log d b l later seen p r at shows in standing_laws.few s l o.0 r st o.1 o.2;
+      addressed = λ bare p r at shows. let o = shown_own s.name log d b l later seen p r at shows in standing_laws.addressed s l o.0 r st (seen.values ∙ bare) o.1 o.2;
+    }
+
+-- a reading is of a dataset by what that says, and by where its header stands
+dataset_like : (s t : Session) (r : Reading) → t.place ≡ s.place → t.dataset ≡ s.dataset → IsDatasetOf s r → IsDatasetOf t r
+dataset_like s t r place dataset x =
+    let same = sym dataset in
+    record {
+      place = x.place ∙ sym place;
+      rank = x.rank ∙ ap (λ (y : Described). y.shape.rank) same;
+      columns = x.columns ∙ ap (λ (y : Described). y.shape.cols) same;
+      growing = x.growing ∙ ap (λ (y : Described). y.shape.growing) same;
+      int_type = x.int_type ∙ ap (λ (y : Described). y.int_type) same;
+      fill = x.fill ∙ ap (λ (y : Described). y.fill) same;
+      index = x.index ∙ ap (λ (y : Described). y.layout.index) same;
+      chunk_rows = x.chunk_rows ∙ ap (λ (y : Described). y.layout.chunk_rows) same;
+      chunk_columns = x.chunk_columns ∙ ap (λ (y : Described). y.layout.chunk_cols) same;
+      needed = x.needed
+          ∙ ap (λ (y : Described). needed_chunks (record { chunk_rows = y.layout.chunk_rows; chunk_columns = y.layout.chunk_cols; columns = y.shape.cols; value_size = y.int_type.size }) r.dataset.shape.rows) same;
     }
 
 -- it says nothing of the superblock, the places, the pieces and of whether the session was stopped
-tells_like : (log : FileLog) (d : ℕ) (b : Begun) (s t : Session) → t.name ≡ s.name → t.dataset ≡ s.dataset → t.committed ≡ s.committed → t.waits ≡ s.waits → PartTells log d b s → PartTells log d b t
-tells_like log d b s t name dataset committed waits x =
+tells_like : (log : FileLog) (d : ℕ) (b : Begun) (s t : Session) → t.name ≡ s.name → t.place ≡ s.place → t.dataset ≡ s.dataset → t.committed ≡ s.committed → t.waits ≡ s.waits → PartTells log d b s → PartTells log d b t
+tells_like log d b s t name place dataset committed waits x =
     let columns = ap (λ (y : Described). y.shape.cols) dataset in
     let rows : rows_of t ≡ rows_of s = ap (λ (y : Described). y.shape.rows + t.waits) dataset ∙ ap (λ (n : ℕ). s.dataset.shape.rows + n) waits in
     record {
@@ -58,19 +91,25 @@ tells_like log d b s t name dataset committed waits x =
       still = subst (λ (n : List ℕ). Still n (log_of d b log)) (sym name) x.still;
       held = subst (λ (n : List ℕ). Held n (log_of d b log)) (sym name) x.held;
       now = λ begun. subst (λ (n : List ℕ). ReadsNow n (log_of d b log)) (sym name) (x.now begun);
+      dataset = λ p r at shows. dataset_like s t r place dataset (x.dataset p r at (by_name p r shows));
+      few = λ p r at shows. subst (λ (y : Described). needed r.dataset ≤ limit_of format_limits y.layout.index) (sym dataset) (x.few p r at (by_name p r shows));
+      addressed = λ bare p r at shows. x.addressed bare p r at (by_name p r shows);
     }
+  where
+    by_name : (p : ℕ) (r : Reading) → Shows format_limits (image_at (log_of d b log) p) t.name r → Shows format_limits (image_at (log_of d b log) p) s.name r
+    by_name p r shows = subst (λ (n : List ℕ). Shows format_limits (image_at (log_of d b log) p) n r) name shows
 
 part_tells : (root : Super) (t : Space) (us : List Used) (left : List Write) (log : FileLog) (d : ℕ) (b : Begun) (before : List Write) (s : Session) (behind : List Write) (e : Entry) → IsStandingPart root t us left log d b before s behind e → PartTells log d b s
 part_tells root t us left log d b before s behind e x = elim x.phase [
   | inl done ↦
-      tells_like log d b (rested root t s) s refl refl refl refl (runs_tell log d b done.own left [] (rested root t s) done.seen refl done.runs.running x.each)
+      tells_like log d b (rested root t s) s refl refl refl refl refl (runs_tell log d b done.own left [] (rested root t s) done.seen refl done.runs.running x.each)
   | inr due ↦
       let v : Session = due.was in
       let w : Session = record v { pending = s.pending } in
       let name : s.name ≡ v.name = ap (λ (y : Session). y.name) due.told in
       let each = subst (λ (n : List ℕ). PrefixedEach n (log_of d b log)) name x.each in
       let pending : s.pending ≡ v.pending = ap (λ (y : Session). y.pending) due.told in
-      tells_like log d b v s name (ap (λ (y : Session). y.dataset) due.told) (ap (λ (y : Session). y.committed) due.told) (ap (λ (y : Session). y.waits) due.told)
+      tells_like log d b v s name (ap (λ (y : Session). y.place) due.told) (ap (λ (y : Session). y.dataset) due.told) (ap (λ (y : Session). y.committed) due.told) (ap (λ (y : Session). y.waits) due.told)
       (runs_tell log d b due.own before s.pending v due.seen pending due.runs.running each)
 ]
 
@@ -109,20 +148,20 @@ made_of f (x ∷ ss) (suc i) s is =
 on_tells : (S : Sessions) (log : FileLog) → StandsOn S log → (d : ℕ) (b : Begun) (s : Session) → slice_get log.sets d ≡ Some b → slice_get S.parts d ≡ Some s → PartTells log d b s
 on_tells S log st d b s set part = parts_tell S.root S.places st.ranges (all_pending S.parts) log 0 log.sets [] S.parts st.entries st.parts d d b s (let z : d ≡ 0 + d = omega arith in z) set part
 
-ended_tells : (was : Sessions) (log : FileLog) → StandsOn was log → (f : Session → Session) → ((x : Session) → (f x).name ≡ x.name) → ((x : Session) → (f x).dataset ≡ x.dataset) → ((x : Session) → (f x).committed ≡ x.committed) → ((x : Session) → (f x).waits ≡ x.waits)
+ended_tells : (was : Sessions) (log : FileLog) → StandsOn was log → (f : Session → Session) → ((x : Session) → (f x).name ≡ x.name) → ((x : Session) → (f x).place ≡ x.place) → ((x : Session) → (f x).dataset ≡ x.dataset) → ((x : Session) → (f x).committed ≡ x.committed) → ((x : Session) → (f x).waits ≡ x.waits)
     → (d : ℕ) (b : Begun) (s : Session) → slice_get log.sets d ≡ Some b → slice_get (map f was.parts) d ≡ Some s → PartTells log d b s
-ended_tells was log st f name dataset committed waits d b s set part =
+ended_tells was log st f name place dataset committed waits d b s set part =
     let o = made_of f was.parts d s part in
     let told = on_tells was log st d b o.was set o.is in
-    subst (λ (y : Session). PartTells log d b y) (sym o.made) (tells_like log d b o.was (f o.was) (name o.was) (dataset o.was) (committed o.was) (waits o.was) told)
+    subst (λ (y : Session). PartTells log d b y) (sym o.made) (tells_like log d b o.was (f o.was) (name o.was) (place o.was) (dataset o.was) (committed o.was) (waits o.was) told)
 
 all_tell : (S : Sessions) (log : FileLog) → StandsAll S log → (d : ℕ) (b : Begun) (s : Session) → slice_get log.sets d ≡ Some b → slice_get S.parts d ≡ Some s → PartTells log d b s
 all_tell S log st d b s set part = elim st.is [
   | inl same ↦ on_tells st.was log st.stands d b s set (ap (λ (x : Sessions). slice_get x.parts d) (sym same) ∙ part)
   | inr ended ↦
       elim ended [
-        | inl same ↦ ended_tells st.was log st.stands halted_of (λ x. refl) (λ x. refl) (λ x. refl) (λ x. refl) d b s set (ap (λ (x : Sessions). slice_get x.parts d) (sym same) ∙ part)
-        | inr same ↦ ended_tells st.was log st.stands stopped_of (λ x. refl) (λ x. refl) (λ x. refl) (λ x. refl) d b s set (ap (λ (x : Sessions). slice_get x.parts d) (sym same) ∙ part)
+        | inl same ↦ ended_tells st.was log st.stands halted_of (λ x. refl) (λ x. refl) (λ x. refl) (λ x. refl) (λ x. refl) d b s set (ap (λ (x : Sessions). slice_get x.parts d) (sym same) ∙ part)
+        | inr same ↦ ended_tells st.was log st.stands stopped_of (λ x. refl) (λ x. refl) (λ x. refl) (λ x. refl) (λ x. refl) d b s set (ap (λ (x : Sessions). slice_get x.parts d) (sym same) ∙ part)
       ]
 ]
 

@@ -4,14 +4,18 @@ use Rattle.h5w_model.specs.Logs.{appended, flushed_rows, rows_in}
 use Rattle.h5w_model.specs.Prefixed.{Held, IsPosition, Prefixed, PrefixedEach, ReadsNow, Still, image_at}
 use Rattle.h5w_model.specs.Several.{Begun, FileLog, appends_to, log_of, plans_each, shown_in, shows_all}
 use Rattle.h5w_model.specs.Superblock.{super_at, super_bytes}
+use Rattle.h5w_model.specs.Tables.{Reading, Shows, format_limits, needed}
 use Rattle.h5w_model.specs.declared.piece.Write.{Write}
+use Rattle.h5w_session.specs.Laws.{IsDatasetOf}
+use Rattle.h5w_session.specs.Past.{AllAddressed}
 use Rattle.h5w_session.specs.Refusals.{append_refusal}
-use Rattle.h5w_session.specs.Sessions.{AreRows, Session, rows_of}
+use Rattle.h5w_session.specs.Sessions.{AreRows, Session, chunk_limit, rows_of}
 use Rattle.h5w_several_session_laws.specs.Sessions.{AfterPieceOf, AppendsTo, AreParts, FlushesAll, SameButHeld, Sessions, all_pending, closed_all, closed_super, counts_of, keeping, stopped_all}
 use Rattle.h5w_several_session_laws.specs.Standing.{StandsAll, and_then}
 
 -- What a part tells of what its dataset sees of the file's log: how many rows are appended and flushed; at each position the image is valid and reads as
--- the rows that are flushed there, and what readers rest on stays; and so it is now.
+-- the rows that are flushed there, and what readers rest on stays; and so it is now. Whatever an image shows is a dataset of the part's shape, with chunks that
+-- its index can have; each needed one has an address where the dataset had no rows at first.
 pub record PartTells (log : FileLog) (d : ℕ) (b : Begun) (s : Session) : Type 0 where
   pub columns : b.columns ≡ s.dataset.shape.cols
   pub some_columns : 0 < s.dataset.shape.cols
@@ -22,6 +26,9 @@ pub record PartTells (log : FileLog) (d : ℕ) (b : Begun) (s : Session) : Type 
   pub still : Still s.name (log_of d b log)
   pub held : Held s.name (log_of d b log)
   pub now : log.first ≤ shown_in log.events → ReadsNow s.name (log_of d b log)
+  pub dataset : (p : ℕ) (r : Reading) → IsPosition (log_of d b log) p → Shows format_limits (image_at (log_of d b log) p) s.name r → IsDatasetOf s r
+  pub few : (p : ℕ) (r : Reading) → IsPosition (log_of d b log) p → Shows format_limits (image_at (log_of d b log) p) s.name r → needed r.dataset ≤ chunk_limit s
+  pub addressed : b.values ≡ [] → (p : ℕ) (r : Reading) → IsPosition (log_of d b log) p → Shows format_limits (image_at (log_of d b log) p) s.name r → AllAddressed r
 
 -- ---- Laws
 

@@ -20,11 +20,12 @@ use Rattle.h5w_several_session_laws.specs.Sessions.{AppendsTo, Sessions, all_pen
 use Rattle.h5w_several_session_laws.specs.Standing.{StandsAll, and_then}
 use Rattle.h5w_several_session_laws.proofs.CallLemmas.{calls_stand}
 use Rattle.h5w_several_session_laws.proofs.FlushAllLemmas.{back_nil, front_nil}
-use Rattle.h5w_several_scripts.specs.Scripts.{FileState, SetState, added, append_reply_in, asks, due, left_of, next_all, pending_in, says, set_after, sets_after, total}
+use Rattle.h5w_several_scripts.specs.Scripts.{FileState, SetState, added, append_reply_in, asks, due, left_of, load_in, next_all, pending_in, says, set_after, sets_after, total}
 use Rattle.h5w_several_scripts.specs.Polled.{Places}
 use Rattle.h5w_several_scripts.proofs.PolledLemmas.{set_there, writer_file_laws}
 use Rattle.h5w_several_worlds.specs.Worlds.{AreStatesOf, HaveOneFileLog, IsFileStateOf, IsStateOfPart, polling_in, rules_in}
 use Rattle.h5w_several_worlds.specs.Steps.{AppendStep, StepsTo}
+use Rattle.h5w_several_worlds.proofs.BeginningLemmas.{new_then}
 use Rattle.h5w_several_worlds.proofs.ShownLemmas.{part_is}
 use Rattle.h5w_several_worlds.proofs.StepLemmas.{Tells, none_left, state_at, states_length, tells_of}
 
@@ -67,7 +68,7 @@ added_state limit attempts before s x vs rows none st =
       taken = λ t. let clash : false ≡ true = sym idle ∙ t in cc;
     }
 
-added_states : (limit attempts before d : ℕ) (ss : List Session) (xs : List SetState) (part : Session) (vs : List ℤ) (rows : ℕ) → all_pending ss ≡ [] → slice_get ss d ≡ Some part → AreStatesOf limit attempts before ss xs
+pub added_states : (limit attempts before d : ℕ) (ss : List Session) (xs : List SetState) (part : Session) (vs : List ℤ) (rows : ℕ) → all_pending ss ≡ [] → slice_get ss d ≡ Some part → AreStatesOf limit attempts before ss xs
     → AreStatesOf limit attempts before (slice_set ss d (with_values part vs)) (sets_after d (adds vs) (replies.Appended rows 0) xs)
 added_states limit attempts before d [] xs part vs rows none at h = absurd (cc)
 added_states limit attempts before d (s ∷ ss) [] part vs rows none at h = absurd h
@@ -79,7 +80,7 @@ added_states limit attempts before (suc d) (s ∷ ss) (x ∷ xs) part vs rows no
     (h.0, added_states limit attempts (before + length s.pending) d ss xs part vs rows (back_nil s.pending (all_pending ss) none) at h.1)
 
 -- no piece is left of any
-no_counts : (ss : List Session) (xs : List SetState) → all_pending ss ≡ [] → length xs ≡ length ss → counts_of ss ≡ map (λ (x : SetState). 0) xs
+pub no_counts : (ss : List Session) (xs : List SetState) → all_pending ss ≡ [] → length xs ≡ length ss → counts_of ss ≡ map (λ (x : SetState). 0) xs
 no_counts [] [] none same = refl
 no_counts [] (x ∷ xs) none same = absurd (omega (arith, same))
 no_counts (s ∷ ss) [] none same = absurd (omega (arith, same))
@@ -87,13 +88,13 @@ no_counts (s ∷ ss) (x ∷ xs) none same =
     let own : length s.pending ≡ 0 = ap length (front_nil s.pending (all_pending ss) none) in
     λ i. own i ∷ no_counts ss xs (back_nil s.pending (all_pending ss) none) (omega (arith, same)) i
 
-no_left : (d : ℕ) (xs : List SetState) → left_of d 0 xs ≡ map (λ (x : SetState). 0) xs
+pub no_left : (d : ℕ) (xs : List SetState) → left_of d 0 xs ≡ map (λ (x : SetState). 0) xs
 no_left d [] = refl
 no_left zero (x ∷ xs) = refl
 no_left (suc d) (x ∷ xs) = ap (λ (ns : List ℕ). 0 ∷ ns) (no_left d xs)
 
 -- the values that wait are no pieces
-added_counts : (ss : List Session) (d : ℕ) (part : Session) (vs : List ℤ) → slice_get ss d ≡ Some part → counts_of (slice_set ss d (with_values part vs)) ≡ counts_of ss
+pub added_counts : (ss : List Session) (d : ℕ) (part : Session) (vs : List ℤ) → slice_get ss d ≡ Some part → counts_of (slice_set ss d (with_values part vs)) ≡ counts_of ss
 added_counts [] d part vs at = absurd (cc)
 added_counts (s ∷ ss) zero part vs at = ap (λ (p : Session). length p.pending ∷ counts_of ss) (sym (part_is s part at))
 added_counts (s ∷ ss) (suc d) part vs at = ap (λ (ns : List ℕ). length s.pending ∷ ns) (added_counts ss d part vs at)
@@ -119,13 +120,13 @@ was_added (s ∷ ss) (suc d) part vs at (suc e) u is = let p = was_added ss d pa
 
 module _ (old new : Sessions) (attempts : ℕ) (ps : Places) (F : FileState) (values : List ℤ) (h : HaveOneFileLog old attempts ps F) (going : old.stopped ≡ false) (none : all_pending old.parts ≡ [])
     (x : AppendsTo F.used values old new) (are : AreRows x.part values) (accepts : append_refusal x.part values ≡ None) where
-  abbrev part : Session
+  abbrev pub part : Session
   part = x.part
 
-  abbrev more : ℕ
+  abbrev pub more : ℕ
   more = length values / part.dataset.shape.cols
 
-  used_set : (y : SetState) × (slice_get F.sets F.used ≡ Some y)
+  pub used_set : (y : SetState) × (slice_get F.sets F.used ≡ Some y)
   used_set = set_there F.sets F.used h.state.polls.used
 
   told : Tells old attempts ps F h.log h.state F.used used_set.0
@@ -145,7 +146,7 @@ module _ (old new : Sessions) (attempts : ℕ) (ps : Places) (F : FileState) (va
       ap (λ (g : Rules). script_rows g used_set.0.state) (sym rules_are) ∙ told.all ∙ ap rows_of same_part in
       rows_added part.dataset.shape.cols are.0 used_set.0.state.appended values some are.1 ∙ ap (λ (n : ℕ). n + more) all
 
-  answer : append_reply_in F used_set.0 values ≡ replies.Appended (rows_of part + more) 0
+  pub answer : append_reply_in F used_set.0 values ≡ replies.Appended (rows_of part + more) 0
   answer =
       let g = rules_in old.places.limit attempts part in
       let s = used_set.0.state in
@@ -160,26 +161,26 @@ module _ (old new : Sessions) (attempts : ℕ) (ps : Places) (F : FileState) (va
       ∙ cond-false (nat_lt (chunk_limit part) (chunks_with part more)) (replies.FullChunks (chunks_with part more) (chunk_limit part)) (replies.Appended (rows_of part + more) 0) a.1
 
   -- the log of what a dataset sees
-  abbrev logs_now : ℕ → Log
+  abbrev pub logs_now : ℕ → Log
   logs_now d = record (h.state.logs d) { events = cond (F.used == d) (appends values ∷ (h.state.logs d).events) (h.state.logs d).events }
 
-  own_log : logs_now F.used ≡ and_now (appends values) (h.state.logs F.used)
+  pub own_log : logs_now F.used ≡ and_now (appends values) (h.state.logs F.used)
   own_log =
       let l = h.state.logs F.used in
       ap (λ (es : List Happening). record l { events = es }) (cond-true (F.used == F.used) (appends values ∷ l.events) l.events (eq-eqb F.used F.used refl))
 
-  other_log : (d : ℕ) → d ≢ F.used → logs_now d ≡ h.state.logs d
+  pub other_log : (d : ℕ) → d ≢ F.used → logs_now d ≡ h.state.logs d
   other_log d other =
       let l = h.state.logs d in
       ap (λ (es : List Happening). record l { events = es }) (cond-false (F.used == d) (appends values ∷ l.events) l.events (ne_eqb F.used d (λ z. other (sym z))))
 
-  parts_are : new.parts ≡ slice_set old.parts F.used (with_values part values)
+  pub parts_are : new.parts ≡ slice_set old.parts F.used (with_values part values)
   parts_are = ap (λ (S : Sessions). S.parts) x.session
 
-  limit_is : new.places.limit ≡ old.places.limit
+  pub limit_is : new.places.limit ≡ old.places.limit
   limit_is = ap (λ (S : Sessions). S.places.limit) x.session
 
-  own_now : (d : ℕ) (b : Begun) (u : Session) → slice_get h.log.sets d ≡ Some b → slice_get new.parts d ≡ Some u
+  pub own_now : (d : ℕ) (b : Begun) (u : Session) → slice_get h.log.sets d ≡ Some b → slice_get new.parts d ≡ Some u
       → (h.state.pollings d ≡ polling_in new.places.limit attempts u) × (logs_now d ≡ log_of d b (and_then (appends_to F.used values) h.log))
   own_now d b u is at =
       let w = was_added old.parts F.used part values x.is d u (ap (λ (ss : List Session). slice_get ss d) (sym parts_are) ∙ at) in
@@ -188,7 +189,13 @@ module _ (old new : Sessions) (attempts : ℕ) (ps : Places) (F : FileState) (va
         ap (λ (l : Log). record l { events = cond (F.used == d) (appends values ∷ l.events) l.events }) own.1,
       )
 
-  added_all : IsFileStateOf new attempts ps (added F values (rows_of part + more) 0) (and_then (appends_to F.used values) h.log)
+  -- whatever is spent more
+  pub still_grown : (load : ℕ) → new.places.end ≤ 1024 * length h.log.sets + (F.spent + load)
+  still_grown load =
+      let end : new.places.end ≡ old.places.end = ap (λ (S : Sessions). S.places.end) x.session in
+      omega (arith, end, h.state.grown)
+
+  abbrev pub added_all : IsFileStateOf new attempts ps (added F values (rows_of part + more) 0) (and_then (appends_to F.used values) h.log)
   added_all =
       let count = states_length old.places.limit attempts 0 old.parts F.sets h.state.states in
       record {
@@ -204,14 +211,16 @@ module _ (old new : Sessions) (attempts : ℕ) (ps : Places) (F : FileState) (va
         logs = logs_now;
         own = own_now;
         polls = writer_file_laws.appended h.state.pollings h.state.logs logs_now F ps values (rows_of part + more) 0 h.state.polls own_log other_log;
+        grown = still_grown (load_in (sets_after F.used (adds values) (replies.Appended (rows_of part + more) 0) F.sets));
       }
 
-  append_steps : StepsTo attempts ps F (asks (adds values)) (says (replies.Appended (rows_of part + more) 0)) new
+  abbrev pub append_steps : StepsTo attempts ps F (asks (adds values)) (says (replies.Appended (rows_of part + more) 0)) new
   append_steps = record {
     allowed = record { set = used_set.0; used = used_set.1; allowed = inl (ap says (sym answer)) };
     fits = record {
       log = and_then (appends_to F.used values) h.log;
       stands = calls_stand.appends old new F.used values h.log h.stands going none x are accepts;
+      new = new_then h.state.pollings h.log (appends_to F.used values) h.new;
       state = added_all;
     };
   }

@@ -28,13 +28,14 @@ use Rattle.h5w_several_scripts.specs.Polled.{Places}
 use Rattle.h5w_several_scripts.proofs.PolledLemmas.{writer_file_laws}
 use Rattle.h5w_several_worlds.specs.Worlds.{AreStatesOf, HaveOneFileLog, IsFileStateOf, IsStateOfPart, polling_in, rules_in}
 use Rattle.h5w_several_worlds.specs.Steps.{FlushStep, StepsTo}
+use Rattle.h5w_several_worlds.proofs.BeginningLemmas.{new_then}
 use Rattle.h5w_several_worlds.proofs.ShownLemmas.{part_is, some_count, total_left}
-use Rattle.h5w_several_worlds.proofs.StepLemmas.{Tells, none_left, part_there, state_at, states_length, tells_of}
+use Rattle.h5w_several_worlds.proofs.StepLemmas.{Tells, match_no, none_left, part_there, state_at, states_length, tells_of}
 
 -- ---- One part
 
 -- what a flush leaves of a part, whose rows may wait or not
-record PlansPart (s u : Session) : Type 0 where
+pub record PlansPart (s u : Session) : Type 0 where
   rules : (limit attempts : ℕ) → rules_in limit attempts u ≡ rules_in limit attempts s
   polling : (limit attempts : ℕ) → polling_in limit attempts u ≡ polling_in limit attempts s
   cut : cutting_of u ≡ cutting_of s
@@ -68,7 +69,7 @@ flush_rules : (s n : Session) (limit attempts : ℕ) → HasFlushed s n → rule
 flush_rules s n limit attempts (inl x) = ap (rules_in limit attempts) x.session
 flush_rules s n limit attempts (inr x) = ap (rules_in limit attempts) x.session
 
-flush_polling : (s n : Session) (limit attempts : ℕ) → HasFlushed s n → polling_in limit attempts n ≡ polling_in limit attempts s
+pub flush_polling : (s n : Session) (limit attempts : ℕ) → HasFlushed s n → polling_in limit attempts n ≡ polling_in limit attempts s
 flush_polling s n limit attempts (inl x) = ap (polling_in limit attempts) x.session
 flush_polling s n limit attempts (inr x) = ap (polling_in limit attempts) x.session
 
@@ -107,7 +108,7 @@ idle_part limit attempts before s u x last end waits none st is =
 
 -- ---- All parts
 
-abbrev AllPlan : List Session → List Session → Type 0
+abbrev pub AllPlan : List Session → List Session → Type 0
 AllPlan [] [] = Unit {0}
 AllPlan [] (u ∷ uu) = ⊥
 AllPlan (s ∷ ss) [] = ⊥
@@ -131,7 +132,7 @@ all_plan limit attempts before root last t end (s ∷ ss) (u ∷ uu) (x ∷ xs) 
       )
     ]
 
-flush_limit : (root last : Super) (t end : Space) (ss uu : List Session) → AreFlushed root t ss last end uu → end.limit ≡ t.limit
+pub flush_limit : (root last : Super) (t end : Space) (ss uu : List Session) → AreFlushed root t ss last end uu → end.limit ≡ t.limit
 flush_limit root last t end [] [] f = ap (λ (v : Space). v.limit) f.1
 flush_limit root last t end [] (u ∷ uu) f = absurd f
 flush_limit root last t end (s ∷ ss) [] f = absurd f
@@ -157,7 +158,7 @@ due_some : (before n : ℕ) → nat_lt 0 (due before n) ≡ nat_lt 0 n
 due_some before zero = refl
 due_some before (suc n) = lt-ltb 0 (before + suc n) (omega arith) ∙ sym (some_count n)
 
-planned_states : (limit attempts before k : ℕ) (ss uu : List Session) (xs : List SetState) → AllPlan ss uu → AreStatesOf limit attempts k ss xs → AreStatesOf limit attempts before uu (planned before (counts_of uu) xs)
+pub planned_states : (limit attempts before k : ℕ) (ss uu : List Session) (xs : List SetState) → AllPlan ss uu → AreStatesOf limit attempts k ss xs → AreStatesOf limit attempts before uu (planned before (counts_of uu) xs)
 planned_states limit attempts before k [] [] [] p h = tt
 planned_states limit attempts before k [] [] (x ∷ xs) p h = absurd h
 planned_states limit attempts before k [] (u ∷ uu) xs p h = absurd p
@@ -177,11 +178,11 @@ planned_states limit attempts before k (s ∷ ss) (u ∷ uu) (x ∷ xs) p h = (
 -- ---- The reply
 
 -- what is known of a dataset in which nothing is pending: its planned rows are flushed
-record IsRested (s : Session) (x : SetState) : Type 0 where
-  flushed : x.state.flushed ≡ s.dataset.shape.rows
-  rows : script_rows x.rules x.state ≡ s.dataset.shape.rows + s.waits
+pub record IsRested (s : Session) (x : SetState) : Type 0 where
+  pub flushed : x.state.flushed ≡ s.dataset.shape.rows
+  pub rows : script_rows x.rules x.state ≡ s.dataset.shape.rows + s.waits
 
-wait_is : (s : Session) (x : SetState) → IsRested s x → rows_wait x ≡ nat_lt s.dataset.shape.rows (s.dataset.shape.rows + s.waits)
+pub wait_is : (s : Session) (x : SetState) → IsRested s x → rows_wait x ≡ nat_lt s.dataset.shape.rows (s.dataset.shape.rows + s.waits)
 wait_is s x r = λ i. nat_lt (r.flushed i) (r.rows i)
 
 part_planned : (s u : Session) (x : SetState) → IsRested s x → PlansPart s u → MatchBool (rows_wait x) (1 ≤ length u.pending) (length u.pending ≡ 0)
@@ -194,7 +195,7 @@ part_planned s u x r p =
           subst (λ (b : Bool). MatchBool b (1 ≤ length u.pending) (length u.pending ≡ 0)) (sym (wait_is s x r ∙ le-ltb rows (rows + s.waits) (omega (arith, none)))) (p.none none)
     ]
 
-abbrev AllRested : List Session → List SetState → Type 0
+abbrev pub AllRested : List Session → List SetState → Type 0
 AllRested ss xs = (e : ℕ) (s : Session) (x : SetState) → slice_get ss e ≡ Some s → slice_get xs e ≡ Some x → IsRested s x
 
 all_planned : (ss uu : List Session) (xs : List SetState) → AllRested ss xs → AllPlan ss uu → length xs ≡ length ss → ArePlanned xs (counts_of uu)
@@ -254,26 +255,11 @@ load_is limit attempts s x log rules columns rows values =
 
 -- ---- The step
 
-module _ (old new : Sessions) (attempts : ℕ) (ps : Places) (F : FileState) (h : HaveOneFileLog old attempts ps F) (going : old.stopped ≡ false) (none : all_pending old.parts ≡ []) (f : FlushesAll old new) where
-  abbrev counts : List ℕ
-  counts = counts_of new.parts
-
-  plan : AllPlan old.parts new.parts
-  plan = all_plan old.places.limit attempts 0 old.root new.root old.places new.places old.parts new.parts F.sets none h.state.states f.parts
-
-  stands_now : StandsAll new (and_then (plans_each counts) h.log)
-  stands_now = calls_stand.flushes old new h.log h.stands going none f
-
-  limit_is : new.places.limit ≡ old.places.limit
-  limit_is = flush_limit old.root new.root old.places new.places old.parts new.parts f.parts
-
-  sets_count : length F.sets ≡ length old.parts
+module _ (old : Sessions) (attempts : ℕ) (ps : Places) (F : FileState) (h : HaveOneFileLog old attempts ps F) (going : old.stopped ≡ false) (none : all_pending old.parts ≡ []) where
+  pub sets_count : length F.sets ≡ length old.parts
   sets_count = states_length old.places.limit attempts 0 old.parts F.sets h.state.states
 
-  count : length counts ≡ length F.sets
-  count = omega (arith, length-map new.parts (λ (s : Session). length s.pending), plan_length old.parts new.parts plan, sets_count)
-
-  rested : AllRested old.parts F.sets
+  pub rested : AllRested old.parts F.sets
   rested e s x a c =
       let t = tells_of old attempts ps F h.log h.state h.stands e x c in
       let same : t.part ≡ s = part_is t.part s (sym t.part_is ∙ a) in
@@ -282,9 +268,6 @@ module _ (old new : Sessions) (attempts : ℕ) (ps : Places) (F : FileState) (h 
         flushed = t.rows ∙ t.tells.flushed_rows ∙ now ∙ ap (λ (p : Session). p.dataset.shape.rows) same;
         rows = t.all ∙ ap rows_of same;
       }
-
-  planned_each : ArePlanned F.sets counts
-  planned_each = all_planned old.parts new.parts F.sets rested plan sets_count
 
   loads : AllLoads 0 h.log h.log.sets old.parts F.sets
   loads e b s x p q r =
@@ -296,65 +279,90 @@ module _ (old new : Sessions) (attempts : ℕ) (ps : Places) (F : FileState) (h 
       load_is old.places.limit attempts s x (log_of e b h.log) st.1.rules told.columns (follows.flushed ∙ ap flushed_rows own.1) (follows.appended ∙ ap appended own.1)
       ∙ ap (λ (n : ℕ). load (cutting_of s) (log_of n b h.log)) here
 
-  few : total counts ≤ load_in F.sets
-  few =
-      let all : load_in F.sets ≡ load_from 0 (cuttings_of old.parts) h.log.sets h.log = all_loads 0 h.log h.log.sets old.parts F.sets (standing_all.sets old h.log h.stands) sets_count loads in
-      let bound : length (all_pending new.parts) ≤ load_from 0 (cuttings_of old.parts) h.log.sets h.log = bounds_stand.few old new h.log h.stands going none f in
-      let same : total counts ≡ length (all_pending new.parts) = total_left new.parts in
-      omega (arith, all, bound, same)
+  -- the loads of the script are those of the log
+  pub loads_are : load_in F.sets ≡ load_from 0 (cuttings_of old.parts) h.log.sets h.log
+  loads_are = all_loads 0 h.log h.log.sets old.parts F.sets (standing_all.sets old h.log h.stands) sets_count loads
 
-  flush_allowed : FlushAllowedIn F (flushing_each counts)
-  flush_allowed =
-      let idle : pending_in F ≡ 0 = ap total h.state.left ∙ none_left old.parts none in
-      match_no _ _ F.stopped (h.state.stopped ∙ going)
-      (match_no _ _ (nat_lt 0 (pending_in F)) (ap (nat_lt 0) idle) (of_wait (some_wait F.sets) refl))
-    where
-      match_no : (P Q : Type 0) (b : Bool) → b ≡ false → Q → MatchBool b P Q
-      match_no P Q true e q = absurd (let clash : true ≡ false = e in cc)
-      match_no P Q false e q = q
+  module _ (new : Sessions) (f : FlushesAll old new) where
+    abbrev pub counts : List ℕ
+    counts = counts_of new.parts
 
-      of_wait : (b : Bool) → some_wait F.sets ≡ b → MatchBool b (IsPlannedIn F (flushing_each counts) ⊎ IsFullIn F (flushing_each counts)) (flushing_each counts ≡ flushing_each (map (λ (x : SetState). 0) F.sets))
-      of_wait true e = inl (record { counts = counts; is = refl; each = planned_each; bound = few })
-      of_wait false e = ap flushing_each (none_planned F.sets counts e planned_each)
+    pub plan : AllPlan old.parts new.parts
+    plan = all_plan old.places.limit attempts 0 old.root new.root old.places new.places old.parts new.parts F.sets none h.state.states f.parts
 
-  level : (d : ℕ) (x : SetState) → slice_get F.sets d ≡ Some x → flushed_rows (and_now (plans (up_to d counts)) (h.state.logs d)) ≡ flushed_rows (h.state.logs d)
-  level d x at =
-      let t = tells_of old attempts ps F h.log h.state h.stands d x at in
-      let inside : d < length F.sets = slice_get_within F.sets d x at in
-      let u = part_there new.parts d (omega (arith, inside, sets_count, plan_length old.parts new.parts plan)) in
-      let p = plan_at old.parts new.parts plan d u.0 u.1 in
-      let same : p.0 ≡ t.part = part_is p.0 t.part (sym p.1 ∙ t.part_is) in
-      let told = standing_all.tells new (and_then (plans_each counts) h.log) stands_now d t.begun u.0 t.set_is u.1 in
-      ap (λ (l : Log). flushed_rows (and_now (plans (up_to d counts)) l)) t.log_is ∙ sym told.flushed_rows ∙ p.2.committed ∙ ap (λ (s : Session). s.committed) same ∙ t.tells.flushed_rows ∙ sym (ap flushed_rows t.log_is)
+    pub stands_now : StandsAll new (and_then (plans_each counts) h.log)
+    stands_now = calls_stand.flushes old new h.log h.stands going none f
 
-  own_now : (d : ℕ) (b : Begun) (u : Session) → slice_get h.log.sets d ≡ Some b → slice_get new.parts d ≡ Some u
-      → (h.state.pollings d ≡ polling_in new.places.limit attempts u) × (and_now (plans (up_to d counts)) (h.state.logs d) ≡ log_of d b (and_then (plans_each counts) h.log))
-  own_now d b u is at =
-      let p = plan_at old.parts new.parts plan d u at in
-      let own = h.state.own d b p.0 is p.1 in (
-        own.0 ∙ sym (p.2.polling old.places.limit attempts) ∙ ap (λ (l : ℕ). polling_in l attempts u) (sym limit_is),
-        ap (and_now (plans (up_to d counts))) own.1,
-      )
+    pub limit_is : new.places.limit ≡ old.places.limit
+    limit_is = flush_limit old.root new.root old.places new.places old.parts new.parts f.parts
 
-  flush_state : IsFileStateOf new attempts ps (next_all F (asks flushes) (flushing_each counts)) (and_then (plans_each counts) h.log)
-  flush_state = record {
-    states =
-        subst (λ (l : ℕ). AreStatesOf l attempts 0 new.parts (planned 0 counts F.sets)) (sym limit_is)
-        (planned_states old.places.limit attempts 0 0 old.parts new.parts F.sets plan h.state.states);
-    left = refl;
-    stopped = h.state.stopped ∙ sym (ap (λ (S : Sessions). S.stopped) f.session);
-    limit = h.state.limit ∙ sym limit_is;
-    pollings = h.state.pollings;
-    logs = λ d. and_now (plans (up_to d counts)) (h.state.logs d);
-    own = own_now;
-    polls = writer_file_laws.planned h.state.pollings h.state.logs F ps counts h.state.polls count level;
-  }
+    pub count : length counts ≡ length F.sets
+    count = omega (arith, length-map new.parts (λ (s : Session). length s.pending), plan_length old.parts new.parts plan, sets_count)
 
-  flush_steps : StepsTo attempts ps F (asks flushes) (flushing_each counts) new
-  flush_steps = record {
-    allowed = flush_allowed;
-    fits = record { log = and_then (plans_each counts) h.log; stands = stands_now; state = flush_state };
-  }
+    planned_each : ArePlanned F.sets counts
+    planned_each = all_planned old.parts new.parts F.sets rested plan sets_count
+
+    few : total counts ≤ load_in F.sets
+    few =
+        let bound : length (all_pending new.parts) ≤ load_from 0 (cuttings_of old.parts) h.log.sets h.log = bounds_stand.few old new h.log h.stands going none f in
+        let same : total counts ≡ length (all_pending new.parts) = total_left new.parts in
+        omega (arith, loads_are, bound, same)
+
+    pub flush_allowed : FlushAllowedIn F (flushing_each counts)
+    flush_allowed =
+        let idle : pending_in F ≡ 0 = ap total h.state.left ∙ none_left old.parts none in
+        match_no _ _ F.stopped (h.state.stopped ∙ going)
+        (match_no _ _ (nat_lt 0 (pending_in F)) (ap (nat_lt 0) idle) (of_wait (some_wait F.sets) refl))
+      where
+        of_wait : (b : Bool) → some_wait F.sets ≡ b → MatchBool b (IsPlannedIn F (flushing_each counts) ⊎ IsFullIn F (flushing_each counts)) (flushing_each counts ≡ flushing_each (map (λ (x : SetState). 0) F.sets))
+        of_wait true e = inl (record { counts = counts; is = refl; each = planned_each; bound = few })
+        of_wait false e = ap flushing_each (none_planned F.sets counts e planned_each)
+
+    pub level : (d : ℕ) (x : SetState) → slice_get F.sets d ≡ Some x → flushed_rows (and_now (plans (up_to d counts)) (h.state.logs d)) ≡ flushed_rows (h.state.logs d)
+    level d x at =
+        let t = tells_of old attempts ps F h.log h.state h.stands d x at in
+        let inside : d < length F.sets = slice_get_within F.sets d x at in
+        let u = part_there new.parts d (omega (arith, inside, sets_count, plan_length old.parts new.parts plan)) in
+        let p = plan_at old.parts new.parts plan d u.0 u.1 in
+        let same : p.0 ≡ t.part = part_is p.0 t.part (sym p.1 ∙ t.part_is) in
+        let told = standing_all.tells new (and_then (plans_each counts) h.log) stands_now d t.begun u.0 t.set_is u.1 in
+        ap (λ (l : Log). flushed_rows (and_now (plans (up_to d counts)) l)) t.log_is ∙ sym told.flushed_rows ∙ p.2.committed ∙ ap (λ (s : Session). s.committed) same ∙ t.tells.flushed_rows ∙ sym (ap flushed_rows t.log_is)
+
+    pub own_now : (d : ℕ) (b : Begun) (u : Session) → slice_get h.log.sets d ≡ Some b → slice_get new.parts d ≡ Some u
+        → (h.state.pollings d ≡ polling_in new.places.limit attempts u) × (and_now (plans (up_to d counts)) (h.state.logs d) ≡ log_of d b (and_then (plans_each counts) h.log))
+    own_now d b u is at =
+        let p = plan_at old.parts new.parts plan d u at in
+        let own = h.state.own d b p.0 is p.1 in (
+          own.0 ∙ sym (p.2.polling old.places.limit attempts) ∙ ap (λ (l : ℕ). polling_in l attempts u) (sym limit_is),
+          ap (and_now (plans (up_to d counts))) own.1,
+        )
+
+    -- the file grew by no more than the loads
+    pub still_grown : new.places.end ≤ 1024 * length h.log.sets + (F.spent + load_in F.sets)
+    still_grown =
+        let raised : new.places.end ≤ old.places.end + load_from 0 (cuttings_of old.parts) h.log.sets h.log = bounds_stand.raised old new h.log h.stands going none f in
+        omega (arith, loads_are, raised, h.state.grown)
+
+    abbrev pub flush_state : IsFileStateOf new attempts ps (next_all F (asks flushes) (flushing_each counts)) (and_then (plans_each counts) h.log)
+    flush_state = record {
+      states =
+          subst (λ (l : ℕ). AreStatesOf l attempts 0 new.parts (planned 0 counts F.sets)) (sym limit_is)
+          (planned_states old.places.limit attempts 0 0 old.parts new.parts F.sets plan h.state.states);
+      left = refl;
+      stopped = h.state.stopped ∙ sym (ap (λ (S : Sessions). S.stopped) f.session);
+      limit = h.state.limit ∙ sym limit_is;
+      pollings = h.state.pollings;
+      logs = λ d. and_now (plans (up_to d counts)) (h.state.logs d);
+      own = own_now;
+      polls = writer_file_laws.planned h.state.pollings h.state.logs F ps counts h.state.polls count level;
+      grown = still_grown;
+    }
+
+    abbrev pub flush_steps : StepsTo attempts ps F (asks flushes) (flushing_each counts) new
+    flush_steps = record {
+      allowed = flush_allowed;
+      fits = record { log = and_then (plans_each counts) h.log; stands = stands_now; new = new_then h.state.pollings h.log (plans_each counts) h.new; state = flush_state };
+    }
 
 pub flush_step : FlushStep
-flush_step = record { flushed = flush_steps }
+flush_step = record { flushed = λ old new attempts ps F h going none f. flush_steps old attempts ps F h going none new f }

@@ -1,6 +1,9 @@
+pub mod BeginningLemmas
+pub mod HoldingLemmas
 pub mod ShownLemmas
 pub mod StepLemmas
 pub mod AppendLemmas
 pub mod FlushLemmas
 pub mod ReaderLemmas
 pub mod RefusalLemmas
+pub mod FullLemmas

@@ -1,6 +1,6 @@
 -- Lines that a session of several datasets refuses.
-use Rattle.std.proofs.Common.{◌≡◌, ◌≢◌, ℕ, zero, suc, ◌+◌, ◌-◌, ◌/◌, ◌<◌, ◌≤◌, cond, Bool, true, false, List, [], ◌∷◌, ◌++◌, length, Option, Some, None, refl, sym, ◌∙◌, ap, subst, inl, arith}
-use Rattle.std.specs.Prelude.{nat_lt, MatchBool, slice_get, ℤ}
+use Rattle.std.proofs.Common.{◌≡◌, ◌≢◌, ℕ, zero, suc, ◌+◌, ◌-◌, ◌*◌, ◌/◌, ◌<◌, ◌≤◌, cond, Bool, true, false, List, [], ◌∷◌, ◌++◌, length, Option, Some, None, refl, sym, ◌∙◌, ap, subst, inl, arith}
+use Rattle.std.specs.Prelude.{nat_lt, slice_get, ℤ}
 use Rattle.std.proofs.lemmas.Bool.{cond-true, cond-false, lt-ltb}
 use Rattle.h5w_model.specs.Lawful.{Rules, adds, append_reply, first_outside, fitting_reply, flushes, rows_in, rows_of as script_rows}
 use Rattle.h5w_model.specs.Logs.{needed_chunks}
@@ -9,6 +9,7 @@ use Rattle.h5w_model.specs.declared.reply.Reply.{Reply}
 use Rattle.h5w_model.specs.declared.reply.Reply.TheVariants as replies
 use Rattle.h5w_session.specs.Sessions.{AreRows, Session, chunk_limit, chunks_with, rows_of}
 use Rattle.h5w_several_session_laws.specs.Sessions.{AreSameBut, SameButHeld, Sessions, all_pending, counts_of}
+use Rattle.h5w_several_session_laws.specs.Standing.{StandsAll}
 use Rattle.h5w_several_session_laws.proofs.CallLemmas.{calls_stand}
 use Rattle.h5w_several_scripts.specs.Scripts.{FileState, SetState, append_reply_in, asks, pending_in, says, total}
 use Rattle.h5w_several_scripts.specs.Polled.{Places}
@@ -18,7 +19,7 @@ use Rattle.h5w_several_worlds.specs.Steps.{StepsTo}
 use Rattle.h5w_several_worlds.specs.Refusals.{AllRefusedSteps, HeldStep}
 use Rattle.h5w_several_worlds.proofs.AppendLemmas.{rows_added}
 use Rattle.h5w_several_worlds.proofs.ShownLemmas.{part_is, total_left}
-use Rattle.h5w_several_worlds.proofs.StepLemmas.{none_left, state_at, tells_of}
+use Rattle.h5w_several_worlds.proofs.StepLemmas.{match_no, match_yes, none_left, state_at, tells_of}
 
 some_pending : (ws : List Write) → ws ≢ [] → 0 < length ws
 some_pending [] some = absurd (some refl)
@@ -106,21 +107,12 @@ module _ (S : Sessions) (attempts : ℕ) (ps : Places) (F : FileState) (h : Have
 
   flush_stopped : S.stopped ≡ true → StepsTo attempts ps F (asks flushes) (says replies.Stopped) S
   flush_stopped stopped = record { allowed = match_yes _ _ F.stopped (h.state.stopped ∙ stopped) refl; fits = h }
-    where
-      match_yes : (P Q : Type 0) (b : Bool) → b ≡ true → P → MatchBool b P Q
-      match_yes P Q true e p = p
-      match_yes P Q false e p = absurd (let clash : false ≡ true = e in cc)
 
   flush_busy : S.stopped ≡ false → all_pending S.parts ≢ [] → StepsTo attempts ps F (asks flushes) (says (replies.Busy (length (all_pending S.parts)))) S
   flush_busy going some = record {
-    allowed = of_stop _ _ _ F.stopped (h.state.stopped ∙ going) (nat_lt 0 (pending_in F)) (busy some) (ap (λ (n : ℕ). says (replies.Busy n)) (sym count));
+    allowed = match_no _ _ F.stopped (h.state.stopped ∙ going) (match_yes _ _ (nat_lt 0 (pending_in F)) (busy some) (ap (λ (n : ℕ). says (replies.Busy n)) (sym count)));
     fits = h;
   }
-    where
-      of_stop : (P Q R : Type 0) (a : Bool) → a ≡ false → (b : Bool) → b ≡ true → Q → MatchBool a P (MatchBool b Q R)
-      of_stop P Q R true e b f q = absurd (let clash : true ≡ false = e in cc)
-      of_stop P Q R false e true f q = q
-      of_stop P Q R false e false f q = absurd (let clash : false ≡ true = f in cc)
 
 pub all_refused_steps : AllRefusedSteps
 all_refused_steps S attempts ps F h = record {
@@ -134,7 +126,7 @@ all_refused_steps S attempts ps F h = record {
 
 -- ---- A flush that was refused
 
-held_states : (limit attempts before : ℕ) (ss uu : List Session) (xs : List SetState) → AreSameBut ss uu → AreStatesOf limit attempts before ss xs → AreStatesOf limit attempts before uu xs
+pub held_states : (limit attempts before : ℕ) (ss uu : List Session) (xs : List SetState) → AreSameBut ss uu → AreStatesOf limit attempts before ss xs → AreStatesOf limit attempts before uu xs
 held_states limit attempts before [] [] xs x h = h
 held_states limit attempts before [] (u ∷ uu) xs x h = absurd x
 held_states limit attempts before (s ∷ ss) [] xs x h = absurd x
@@ -146,7 +138,7 @@ held_states limit attempts before (s ∷ ss) (u ∷ uu) (y ∷ ys) x h =
       subst (λ (n : ℕ). AreStatesOf limit attempts (before + n) uu ys) same (held_states limit attempts (before + length s.pending) ss uu ys x.1 h.1),
     )
 
-held_counts : (ss uu : List Session) → AreSameBut ss uu → counts_of ss ≡ counts_of uu
+pub held_counts : (ss uu : List Session) → AreSameBut ss uu → counts_of ss ≡ counts_of uu
 held_counts [] [] x = refl
 held_counts [] (u ∷ uu) x = absurd x
 held_counts (s ∷ ss) [] x = absurd x
@@ -154,19 +146,23 @@ held_counts (s ∷ ss) (u ∷ uu) x =
     let same : length s.pending ≡ length u.pending = sym (ap (λ (v : Session). length v.pending) x.0.session) in
     λ i. same i ∷ held_counts ss uu x.1 i
 
-held_part : (ss uu : List Session) → AreSameBut ss uu → (d : ℕ) (u : Session) → slice_get uu d ≡ Some u → (s : Session) × (slice_get ss d ≡ Some s) × (u ≡ record s { index = u.index })
+pub held_part : (ss uu : List Session) → AreSameBut ss uu → (d : ℕ) (u : Session) → slice_get uu d ≡ Some u → (s : Session) × (slice_get ss d ≡ Some s) × (u ≡ record s { index = u.index })
 held_part [] [] x d u at = absurd (cc)
 held_part [] (v ∷ uu) x d u at = absurd x
 held_part (s ∷ ss) [] x d u at = absurd x
 held_part (s ∷ ss) (v ∷ uu) x zero u at = (s, refl, subst (λ (q : Session). q ≡ record s { index = q.index }) (part_is v u at) x.0.session)
 held_part (s ∷ ss) (v ∷ uu) x (suc d) u at = held_part ss uu x.1 d u at
 
-pub held_step : HeldStep
-held_step old new attempts ps F h going none x =
+-- of any session that stands for the log and differs so
+abbrev pub held_left : (old new : Sessions) (attempts : ℕ) (ps : Places) (F : FileState) → (h : HaveOneFileLog old attempts ps F) → StandsAll new h.log → SameButHeld old new → HaveOneFileLog new attempts ps F
+held_left old new attempts ps F h stands x =
     let limit : new.places.limit ≡ old.places.limit = ap (λ (S : Sessions). S.places.limit) x.session in
+    let end : new.places.end ≡ old.places.end = ap (λ (S : Sessions). S.places.end) x.session in
+    let still_grown : new.places.end ≤ 1024 * length h.log.sets + F.spent = omega (arith, end, h.state.grown) in
     record {
       log = h.log;
-      stands = calls_stand.refused old new h.log h.stands going none x;
+      stands = stands;
+      new = h.new;
       state = record {
         states = subst (λ (l : ℕ). AreStatesOf l attempts 0 new.parts F.sets) (sym limit) (held_states old.places.limit attempts 0 old.parts new.parts F.sets x.parts h.state.states);
         left = h.state.left ∙ held_counts old.parts new.parts x.parts;
@@ -179,5 +175,9 @@ held_step old new attempts ps F h going none x =
             let own = h.state.own d b p.0 is p.1 in
             (own.0 ∙ sym (ap (polling_in old.places.limit attempts) p.2) ∙ ap (λ (l : ℕ). polling_in l attempts u) (sym limit), own.1);
         polls = h.state.polls;
+        grown = still_grown;
       };
     }
+
+abbrev pub held_step : HeldStep
+held_step old new attempts ps F h going none x = held_left old new attempts ps F h (calls_stand.refused old new h.log h.stands going none x) x

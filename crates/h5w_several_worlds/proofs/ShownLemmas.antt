@@ -26,7 +26,7 @@ settled_all : (b : Bool) (s u : Session) → Settles b s u → Settled s u
 settled_all true s u x = subst (λ (v : Session). Settled s v) (sym x.1) (record { keeps = record { rules = λ l a. refl; polling = λ l a. refl; waits = refl }; left = refl })
 settled_all false s u x = subst (λ (v : Session). Settled s v) (sym x) (record { keeps = record { rules = λ l a. refl; polling = λ l a. refl; waits = refl }; left = refl })
 
-piece_keeps : (s u : Session) (ws : List Write) → AfterPiece s ws u → KeepsPart s u
+pub piece_keeps : (s u : Session) (ws : List Write) → AfterPiece s ws u → KeepsPart s u
 piece_keeps s u [] x = (settled_all s.flushing s u x).keeps
 piece_keeps s u (w ∷ ws) x = subst (λ (v : Session). KeepsPart s v) (sym x) (record { rules = λ l a. refl; polling = λ l a. refl; waits = refl })
 

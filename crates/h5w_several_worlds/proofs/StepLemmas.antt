@@ -1,6 +1,6 @@
 -- Steps of a session of several datasets.
 use Rattle.std.proofs.Common.{◌≡◌, ◌⊎◌, ℕ, zero, suc, ◌+◌, ◌-◌, ◌*◌, ◌/◌, ◌<◌, ◌≤◌, min, cond, Bool, true, false, List, [], ◌∷◌, ◌++◌, length, map, Option, Some, None, refl, sym, ◌∙◌, ap, subst, inl, inr, arith, length-append}
-use Rattle.std.specs.Prelude.{nat_lt, slice_get, ℤ}
+use Rattle.std.specs.Prelude.{nat_lt, MatchBool, slice_get, ℤ}
 use Rattle.std.proofs.lemmas.Option.{slice_get_within}
 use Rattle.h5w_model.specs.Lawful.{Rules, ScriptState, after_shows, ends, shows_up_to, rows_of as script_rows}
 use Rattle.h5w_model.specs.Logs.{Log, shows, appended, flushed_rows, and_now}
@@ -20,7 +20,19 @@ use Rattle.h5w_several_scripts.specs.Polled.{FilePolled, IsPolled, Places}
 use Rattle.h5w_several_scripts.proofs.PolledLemmas.{writer_file_laws}
 use Rattle.h5w_several_worlds.specs.Worlds.{AreStatesOf, HaveOneFileLog, IsFileStateOf, IsStateOfPart, polling_in, rules_in}
 use Rattle.h5w_several_worlds.specs.Steps.{StepLaws, StepsTo}
+use Rattle.h5w_several_worlds.proofs.BeginningLemmas.{new_then}
 use Rattle.h5w_several_worlds.proofs.ShownLemmas.{after_idle, counts_shown, left_none, shown_left, shown_rows, shown_states, total_left, was_part}
+
+-- ---- Tests
+
+-- what follows where a test holds, and where it does not
+pub match_yes : (P Q : Type 0) (b : Bool) → b ≡ true → P → MatchBool b P Q
+match_yes P Q true e p = p
+match_yes P Q false e p = absurd (let clash : false ≡ true = e in cc)
+
+pub match_no : (P Q : Type 0) (b : Bool) → b ≡ false → Q → MatchBool b P Q
+match_no P Q true e q = absurd (let clash : true ≡ false = e in cc)
+match_no P Q false e q = q
 
 -- ---- A dataset and its part, by number
 
@@ -97,21 +109,27 @@ tells_of S attempts ps F log st stands d x at =
 
 -- ---- A piece
 
-limit_kept : (old new : Sessions) (w : Write) → AfterPieceOf w old new → new.places.limit ≡ old.places.limit
+pub limit_kept : (old new : Sessions) (w : Write) → AfterPieceOf w old new → new.places.limit ≡ old.places.limit
 limit_kept old new w x = elim x.places [
   | inl y ↦ (freed_keeps old.keeps old.places new.places y.2).1
   | inr y ↦ ap (λ t. t.limit) y.1
 ]
 
+end_kept : (old new : Sessions) (w : Write) → AfterPieceOf w old new → new.places.end ≡ old.places.end
+end_kept old new w x = elim x.places [
+  | inl y ↦ (freed_keeps old.keeps old.places new.places y.2).0
+  | inr y ↦ ap (λ t. t.end) y.1
+]
+
 module _ (old new : Sessions) (attempts : ℕ) (ps : Places) (F : FileState) (w : Write) (h : HaveOneFileLog old attempts ps F) (x : AfterPieceOf w old new) where
-  now_stands : StandsAll new (and_then (shows_all w) h.log)
+  pub now_stands : StandsAll new (and_then (shows_all w) h.log)
   now_stands = calls_stand.shown old new w h.log h.stands x
 
-  limit_is : new.places.limit ≡ old.places.limit
+  pub limit_is : new.places.limit ≡ old.places.limit
   limit_is = limit_kept old new w x
 
   -- after the piece as much is flushed of each dataset as its state says
-  rows_now : (d : ℕ) (y : SetState) → slice_get F.sets d ≡ Some y → (after_shows y.rules y.state 1).flushed ≡ flushed_rows (and_now (shows w) (h.state.logs d))
+  pub rows_now : (d : ℕ) (y : SetState) → slice_get F.sets d ≡ Some y → (after_shows y.rules y.state 1).flushed ≡ flushed_rows (and_now (shows w) (h.state.logs d))
   rows_now d y at =
       let t = tells_of old attempts ps F h.log h.state h.stands d y at in
       let inside : d < length old.parts = slice_get_within old.parts d t.part t.part_is in
@@ -123,7 +141,7 @@ module _ (old new : Sessions) (attempts : ℕ) (ps : Places) (F : FileState) (w 
       ∙ told.flushed_rows
       ∙ ap (λ (l : Log). flushed_rows (and_now (shows w) l)) (sym t.log_is)
 
-  own_now : (d : ℕ) (b : Begun) (u : Session) → slice_get h.log.sets d ≡ Some b → slice_get new.parts d ≡ Some u
+  pub own_now : (d : ℕ) (b : Begun) (u : Session) → slice_get h.log.sets d ≡ Some b → slice_get new.parts d ≡ Some u
       → (h.state.pollings d ≡ polling_in new.places.limit attempts u) × (and_now (shows w) (h.state.logs d) ≡ log_of d b (and_then (shows_all w) h.log))
   own_now d b u is at =
       let p = was_part w old.parts new.parts x.parts d u at in
@@ -132,7 +150,10 @@ module _ (old new : Sessions) (attempts : ℕ) (ps : Places) (F : FileState) (w 
         ap (and_now (shows w)) own.1,
       )
 
-  shown_state : (k pieces : ℕ) → IsFileStateOf new attempts ps (next_all F (asks (shows_up_to k)) (says (replies.Written 1 pieces))) (and_then (shows_all w) h.log)
+  pub still_grown : new.places.end ≤ 1024 * length h.log.sets + F.spent
+  still_grown = omega (arith, end_kept old new w x, h.state.grown)
+
+  abbrev pub shown_state : (k pieces : ℕ) → IsFileStateOf new attempts ps (next_all F (asks (shows_up_to k)) (says (replies.Written 1 pieces))) (and_then (shows_all w) h.log)
   shown_state k pieces = record {
     states =
         subst (λ (l : ℕ). AreStatesOf l attempts 0 new.parts (shown_sets 1 F.sets)) (sym limit_is)
@@ -144,21 +165,27 @@ module _ (old new : Sessions) (attempts : ℕ) (ps : Places) (F : FileState) (w 
     logs = λ d. and_now (shows w) (h.state.logs d);
     own = own_now;
     polls = writer_file_laws.shown h.state.pollings h.state.logs F ps w k 1 pieces h.state.polls rows_now;
+    grown = still_grown;
   }
 
-  shown_steps : StepsTo attempts ps F (asks (shows_up_to 1)) (says (replies.Written 1 (length (all_pending new.parts)))) new
+  abbrev pub shown_steps : StepsTo attempts ps F (asks (shows_up_to 1)) (says (replies.Written 1 (length (all_pending new.parts)))) new
   shown_steps =
       let count : total F.left ≡ suc (length (all_pending new.parts)) = ap total h.state.left ∙ total_left old.parts ∙ shown_left w old.parts new.parts x.parts in
       let one : 1 ≡ min 1 (total F.left) = omega arith in
       let rest : length (all_pending new.parts) ≡ total F.left - min 1 (total F.left) = omega arith in
       record {
         allowed = λ i. says (replies.Written (one i) (rest i));
-        fits = record { log = and_then (shows_all w) h.log; stands = now_stands; state = shown_state 1 (length (all_pending new.parts)) };
+        fits = record {
+          log = and_then (shows_all w) h.log;
+          stands = now_stands;
+          new = new_then h.state.pollings h.log (shows_all w) h.new;
+          state = shown_state 1 (length (all_pending new.parts));
+        };
       }
 
 -- ---- No piece
 
-none_shown : (limit attempts before : ℕ) (ss : List Session) (xs : List SetState) → all_pending ss ≡ [] → AreStatesOf limit attempts before ss xs → shown_sets 0 xs ≡ xs
+pub none_shown : (limit attempts before : ℕ) (ss : List Session) (xs : List SetState) → all_pending ss ≡ [] → AreStatesOf limit attempts before ss xs → shown_sets 0 xs ≡ xs
 none_shown limit attempts before [] [] none h = refl
 none_shown limit attempts before [] (x ∷ xs) none h = absurd h
 none_shown limit attempts before (s ∷ ss) [] none h = absurd h
@@ -178,18 +205,35 @@ none_shown limit attempts before (s ∷ ss) (x ∷ xs) none h =
 pub none_left : (ss : List Session) → all_pending ss ≡ [] → total (counts_of ss) ≡ 0
 none_left ss none = total_left ss ∙ ap length none
 
-shown_none : (S : Sessions) (attempts : ℕ) (ps : Places) (F : FileState) → HaveOneFileLog S attempts ps F → all_pending S.parts ≡ [] → StepsTo attempts ps F (asks (shows_up_to 1)) (says (replies.Written 0 0)) S
+-- the same state
+abbrev pub state_as : (S : Sessions) (attempts : ℕ) (ps : Places) (F G : FileState) (log : FileLog) → F ≡ G → IsFileStateOf S attempts ps F log → IsFileStateOf S attempts ps G log
+state_as S attempts ps F G log e st = record {
+  states = subst (λ (H : FileState). AreStatesOf S.places.limit attempts 0 S.parts H.sets) e st.states;
+  left = sym (ap (λ (H : FileState). H.left) e) ∙ st.left;
+  stopped = sym (ap (λ (H : FileState). H.stopped) e) ∙ st.stopped;
+  limit = sym (ap (λ (H : FileState). H.space_limit) e) ∙ st.limit;
+  pollings = st.pollings;
+  logs = st.logs;
+  own = st.own;
+  polls = subst (λ (H : FileState). FilePolled st.pollings st.logs H ps) e st.polls;
+  grown = subst (λ (H : FileState). S.places.end ≤ 1024 * length log.sets + H.spent) e st.grown;
+}
+
+abbrev pub shown_none : (S : Sessions) (attempts : ℕ) (ps : Places) (F : FileState) → HaveOneFileLog S attempts ps F → all_pending S.parts ≡ [] → StepsTo attempts ps F (asks (shows_up_to 1)) (says (replies.Written 0 0)) S
 shown_none S attempts ps F h none =
     let count : total F.left ≡ 0 = ap total h.state.left ∙ none_left S.parts none in
     let one : 0 ≡ min 1 (total F.left) = omega arith in
     let rest : 0 ≡ total F.left - min 1 (total F.left) = omega arith in
     let same : next_all F (asks (shows_up_to 1)) (says (replies.Written 0 0)) ≡ F =
     λ i. record F { sets = none_shown S.places.limit attempts 0 S.parts F.sets none h.state.states i; left = left_none F.left i } in
-    record { allowed = λ i. says (replies.Written (one i) (rest i)); fits = subst (λ (G : FileState). HaveOneFileLog S attempts ps G) (sym same) h }
+    record {
+      allowed = λ i. says (replies.Written (one i) (rest i));
+      fits = record { log = h.log; stands = h.stands; new = h.new; state = state_as S attempts ps F (next_all F (asks (shows_up_to 1)) (says (replies.Written 0 0))) h.log (sym same) h.state };
+    }
 
 -- ---- A stop
 
-stopped_states : (limit attempts before k : ℕ) (ss : List Session) (xs : List SetState) → AreStatesOf limit attempts before ss xs → AreStatesOf limit attempts k (map stopped_of ss) (map (set_after ends replies.Stopped) xs)
+pub stopped_states : (limit attempts before k : ℕ) (ss : List Session) (xs : List SetState) → AreStatesOf limit attempts before ss xs → AreStatesOf limit attempts k (map stopped_of ss) (map (set_after ends replies.Stopped) xs)
 stopped_states limit attempts before k [] [] h = tt
 stopped_states limit attempts before k [] (x ∷ xs) h = absurd h
 stopped_states limit attempts before k (s ∷ ss) [] h = absurd h
@@ -198,12 +242,12 @@ stopped_states limit attempts before k (s ∷ ss) (x ∷ xs) h = (
   stopped_states limit attempts (before + length s.pending) (k + 0) ss xs h.1,
 )
 
-stopped_counts : (ss : List Session) → map (λ (n : ℕ). 0) (counts_of ss) ≡ counts_of (map stopped_of ss)
+pub stopped_counts : (ss : List Session) → map (λ (n : ℕ). 0) (counts_of ss) ≡ counts_of (map stopped_of ss)
 stopped_counts [] = refl
 stopped_counts (s ∷ ss) = ap (λ (ns : List ℕ). 0 ∷ ns) (stopped_counts ss)
 
 -- a part of the stopped session
-stopped_part : (ss : List Session) (d : ℕ) (u : Session) → slice_get (map stopped_of ss) d ≡ Some u → (s : Session) × (slice_get ss d ≡ Some s) × (stopped_of s ≡ u)
+pub stopped_part : (ss : List Session) (d : ℕ) (u : Session) → slice_get (map stopped_of ss) d ≡ Some u → (s : Session) × (slice_get ss d ≡ Some s) × (stopped_of s ≡ u)
 stopped_part [] d u e = absurd (cc)
 stopped_part (s ∷ ss) zero u e = (s, refl, some_part (stopped_of s) u e)
   where
@@ -211,12 +255,13 @@ stopped_part (s ∷ ss) zero u e = (s, refl, some_part (stopped_of s) u e)
     some_part a b e = cc
 stopped_part (s ∷ ss) (suc d) u e = stopped_part ss d u e
 
-stopped_steps : (S : Sessions) (attempts : ℕ) (ps : Places) (F : FileState) → HaveOneFileLog S attempts ps F → StepsTo attempts ps F (asks ends) (says replies.Stopped) (stopped_all S)
+abbrev pub stopped_steps : (S : Sessions) (attempts : ℕ) (ps : Places) (F : FileState) → HaveOneFileLog S attempts ps F → StepsTo attempts ps F (asks ends) (says replies.Stopped) (stopped_all S)
 stopped_steps S attempts ps F h = record {
   allowed = refl;
   fits = record {
     log = h.log;
     stands = calls_stand.stops S h.log h.stands;
+    new = h.new;
     state = record {
       states = stopped_states S.places.limit attempts 0 0 S.parts F.sets h.state.states;
       left = ap (map (λ (n : ℕ). 0)) h.state.left ∙ stopped_counts S.parts;
@@ -229,13 +274,14 @@ stopped_steps S attempts ps F h = record {
           let own = h.state.own d b p.0 is p.1 in
           (own.0 ∙ ap (polling_in S.places.limit attempts) p.2, own.1);
       polls = writer_file_laws.ended h.state.pollings h.state.logs F ps h.state.polls;
+      grown = h.state.grown;
     };
   };
 }
 
 -- ---- Another dataset in use
 
-used_steps : (S : Sessions) (attempts : ℕ) (ps : Places) (F : FileState) (i : ℕ) → HaveOneFileLog S attempts ps F → 0 < i → i < length S.parts + 1 → StepsTo attempts ps F (uses i) (using i) S
+abbrev pub used_steps : (S : Sessions) (attempts : ℕ) (ps : Places) (F : FileState) (i : ℕ) → HaveOneFileLog S attempts ps F → 0 < i → i < length S.parts + 1 → StepsTo attempts ps F (uses i) (using i) S
 used_steps S attempts ps F i h some few =
     let sets = states_length S.places.limit attempts 0 S.parts F.sets h.state.states in
     let u = writer_file_laws.used h.state.pollings h.state.logs F ps i h.state.polls (omega (arith, some)) (omega (arith, few, sets)) in
@@ -244,6 +290,7 @@ used_steps S attempts ps F i h some few =
       fits = record {
         log = h.log;
         stands = h.stands;
+        new = h.new;
         state = record {
           states = h.state.states;
           left = h.state.left;
@@ -253,6 +300,7 @@ used_steps S attempts ps F i h some few =
           logs = h.state.logs;
           own = h.state.own;
           polls = u.1;
+          grown = h.state.grown;
         };
       };
     }

@@ -2,8 +2,10 @@
 use Rattle.std.specs.Prelude.{◌≡◌, ◌≢◌, ◌/◌, ◌<◌, ℕ, true, false, List, [], length, ℤ, None, Some, slice_get}
 use Rattle.h5w_model.specs.Lawful.{adds, first_outside, flushes}
 use Rattle.h5w_model.specs.declared.reply.Reply.TheVariants as replies
+use Rattle.h5w_space.specs.declared.Full.{Full}
 use Rattle.h5w_session.specs.Sessions.{AreRows, Session, chunk_limit, chunks_with}
 use Rattle.h5w_several_session_laws.specs.Sessions.{SameButHeld, Sessions, all_pending}
+use Rattle.h5w_several_session.specs.Refusals.{NoPlaceAll}
 use Rattle.h5w_several_scripts.specs.Scripts.{FileState, asks, says}
 use Rattle.h5w_several_scripts.specs.Polled.{Places}
 use Rattle.h5w_several_worlds.specs.Worlds.{HaveOneFileLog}
@@ -29,3 +31,9 @@ AllRefusedSteps = (S : Sessions) (attempts : ℕ) (ps : Places) (F : FileState) 
 abbrev pub HeldStep : Type 0
 HeldStep = (old new : Sessions) (attempts : ℕ) (ps : Places) (F : FileState) → HaveOneFileLog old attempts ps F → old.stopped ≡ false → all_pending old.parts ≡ [] → SameButHeld old new
     → HaveOneFileLog new attempts ps F
+
+-- The file has no place for one of the parts: the flush is told which range has none, and the same states fit what it
+-- leaves.
+abbrev pub FullStep : Type 0
+FullStep = (old new : Sessions) (attempts : ℕ) (ps : Places) (F : FileState) (full : Full) → (h : HaveOneFileLog old attempts ps F) → old.stopped ≡ false → all_pending old.parts ≡ [] → NoPlaceAll old h.log full → SameButHeld old new
+    → StepsTo attempts ps F (asks flushes) (says (replies.FullSpace full.at full.size full.limit)) new

@@ -1,5 +1,5 @@
 -- A session of several datasets and some readers, and the states of a script that fit them.
-use Rattle.std.specs.Prelude.{◌≡◌, ℕ, ◌+◌, ◌≤◌, true, Bool, List, [], ◌∷◌, length, nat_lt, Some, slice_get}
+use Rattle.std.specs.Prelude.{◌≡◌, ℕ, ◌+◌, ◌*◌, ◌≤◌, true, Bool, List, [], ◌∷◌, length, nat_lt, Some, slice_get}
 use Rattle.h5w_model.specs.Lawful.{Rules}
 use Rattle.h5w_model.specs.Logs.{Log}
 use Rattle.h5w_model.specs.Several.{Begun, FileLog, log_of}
@@ -10,6 +10,7 @@ use Rattle.h5w_several_session_laws.specs.Sessions.{Sessions, counts_of}
 use Rattle.h5w_several_session_laws.specs.Standing.{StandsAll}
 use Rattle.h5w_several_scripts.specs.Scripts.{FileState, SetState, due}
 use Rattle.h5w_several_scripts.specs.Polled.{FilePolled, Places}
+use Rattle.h5w_several_worlds.specs.Beginnings.{IsNewFor}
 
 -- the rules of the lines of a part, in a file of at most so many bytes, with so many attempts of a reader's call
 abbrev pub rules_in : (limit attempts : ℕ) → Session → Rules
@@ -43,7 +44,7 @@ AreStatesOf limit attempts before (s ∷ ss) [] = ⊥
 AreStatesOf limit attempts before (s ∷ ss) (x ∷ xs) = IsStateOfPart limit attempts before s x × AreStatesOf limit attempts (before + length s.pending) ss xs
 
 -- The script's state is that of a log of the session: of each dataset its part's, with the values and rows of what it
--- sees of the log, and the readers poll that.
+-- sees of the log, and the readers poll that. The file ends within what its datasets begin with and the loads so far.
 pub record IsFileStateOf (S : Sessions) (attempts : ℕ) (ps : Places) (F : FileState) (log : FileLog) : Type 0 where
   pub states : AreStatesOf S.places.limit attempts 0 S.parts F.sets
   pub left : F.left ≡ counts_of S.parts
@@ -53,9 +54,11 @@ pub record IsFileStateOf (S : Sessions) (attempts : ℕ) (ps : Places) (F : File
   pub logs : ℕ → Log
   pub own : (d : ℕ) (b : Begun) (s : Session) → slice_get log.sets d ≡ Some b → slice_get S.parts d ≡ Some s → (pollings d ≡ polling_in S.places.limit attempts s) × (logs d ≡ log_of d b log)
   pub polls : FilePolled pollings logs F ps
+  pub grown : S.places.end ≤ 1024 * length log.sets + F.spent
 
--- the session, its readers and the script's state are those of one log of the file
+-- the session, its readers and the script's state are those of one log of the file, which the session created
 pub record HaveOneFileLog (S : Sessions) (attempts : ℕ) (ps : Places) (F : FileState) : Type 0 where
   pub log : FileLog
   pub stands : StandsAll S log
   pub state : IsFileStateOf S attempts ps F log
+  pub new : IsNewFor state.pollings log

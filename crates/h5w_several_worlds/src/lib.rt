@@ -5,5 +5,6 @@
 mod steps;
 
 pub use steps::{
-    append_steps, flush_steps, reader_steps, refused_flush, refused_steps, writer_steps,
+    append_steps, flush_steps, full_flush, logs_hold, reader_steps, refused_flush, refused_steps,
+    writer_steps,
 };

@@ -1,7 +1,8 @@
 //! Lines of the writer and of readers, one step each.
 
+ghost use Rattle.h5w_several_worlds.specs.Holding.{LogsHold};
 ghost use Rattle.h5w_several_worlds.specs.ReaderSteps.{AllReaderSteps};
-ghost use Rattle.h5w_several_worlds.specs.Refusals.{AllRefusedSteps, HeldStep};
+ghost use Rattle.h5w_several_worlds.specs.Refusals.{AllRefusedSteps, FullStep, HeldStep};
 ghost use Rattle.h5w_several_worlds.specs.Steps.{AppendStep, FlushStep, StepLaws};
 
 /// A piece that becomes visible, a stop, and a line that takes another dataset into use: the reply is lawful, and the
@@ -24,6 +25,11 @@ pub fn flush_steps()
     ensures { FlushStep }
 {}
 
+/// Readers of each dataset can rest on what it sees of the log: what h5w_polling asks of a log is true of each.
+pub fn logs_hold()
+    ensures { LogsHold }
+{}
+
 /// A line of a reader, by whether it was opened and for which dataset, and by what is left of its call.
 #[tactic(auto, using(crate::proofs::ReaderLemmas::all_reader_steps))]
 pub fn reader_steps()
@@ -40,4 +46,9 @@ pub fn refused_steps()
 #[tactic(auto, using(crate::proofs::RefusalLemmas::held_step))]
 pub fn refused_flush()
     ensures { HeldStep }
+{}
+
+/// A flush of which the file has no place for some part: that place is bounded by the loads, so the reply is lawful.
+pub fn full_flush()
+    ensures { FullStep }
 {}

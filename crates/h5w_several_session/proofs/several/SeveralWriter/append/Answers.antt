@@ -5,7 +5,7 @@ use Rattle.h5w_session.specs.declared.refusal.AppendError.{AppendError}
 use Rattle.h5w_session.specs.declared.refusal.AppendError.TheVariants.{Failed, OutOfMemory}
 use Rattle.h5w_several_session.specs.Refusals.{append_refusal_in}
 use Rattle.h5w_several_session_laws.specs.Sessions.{AppendsTo, Sessions, all_pending}
-use Rattle.h5w_several_session.proofs.CountedLemmas.{added_either, added_to, room_at, rows_at}
+use Rattle.h5w_several_session.proofs.CountedLemmas.{added_either, added_to, room_at, rows_at, within_at}
 use Rattle.h5w_several_session.proofs.EndLemmas.{get_at, refusal_in, same_part}
 use Rattle.h5w_several_session.proofs.StandLemmas.{append_stands}
 use Rattle.h5w_several_session.proofs.several.SeveralWriter.append.Goals as goal
@@ -34,6 +34,12 @@ returns-clause-rows g c =
     let i = c.self.inside in
     let inside : c.args.d < length i.parts.items = omega (arith, c.requires.inside, ap (λ (S : Sessions). length S.parts) c.self.view_is) in
     rows_at i.parts.items c.args.d c.append_waiting.new.self c.append_waiting.result inside c.append_waiting.ensures.rows
+
+pub returns-clause-within : goal.returns-clause-within
+returns-clause-within g c =
+    let i = c.self.inside in
+    let inside : c.args.d < length i.parts.items = omega (arith, c.requires.inside, ap (λ (S : Sessions). length S.parts) c.self.view_is) in
+    within_at i.parts.items c.args.d c.append_waiting.new.self c.append_waiting.result inside c.append_waiting.ensures.within
 
 pub returns-clause-refused : goal.returns-clause-refused
 returns-clause-refused g c t e there is =

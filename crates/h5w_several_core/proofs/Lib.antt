@@ -1,0 +1,13 @@
+pub mod MadeLemmas
+pub mod RuleLemmas
+pub mod MachineLemmas
+pub mod AppendLemmas
+pub mod FlushLemmas
+pub mod ShowLemmas
+pub mod SeatLemmas
+pub mod EndedLemmas
+pub mod LineLemmas
+pub mod ReaderLemmas
+pub mod CreationLemmas
+pub mod StepLemmas
+pub mod RunLemmas

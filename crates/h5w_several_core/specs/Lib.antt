@@ -1,0 +1,8 @@
+pub use Rattle.h5w_image.specs.View
+pub use Rattle.h5w_several_scripts.specs.Scripts
+pub use Rattle.h5w_several_session_laws.specs.Sessions
+pub use Rattle.h5w_several_session_laws.specs.Standing
+pub mod Places
+pub mod Worlds
+pub mod Creation
+pub mod Runs
