@@ -4,4 +4,4 @@
 mod line;
 
 pub use h5w_batches::{BatchError, TextLine, Values};
-pub use line::{SetLine, set_line};
+pub use line::{SetLine, set_line, use_line};

@@ -17,7 +17,7 @@ pub enum SetLine {
 }
 
 /// The dataset that a line names to be in use, counted from 0, where there are so many.
-fn use_line(sets: usize, line: &[u8]) -> Option<usize>
+pub fn use_line(sets: usize, line: &[u8]) -> Option<usize>
     ensures { result ≡ use_of sets line.now }
 {
     if line.len() > LINE_LIMIT {

@@ -1,0 +1,14 @@
+pub use Rattle.h5w_options.specs.Options
+pub use Rattle.h5w_text.specs.Streams
+pub use Rattle.h5w_several_batches.specs.SetLines
+pub use Rattle.h5w_several_scripts.specs.Scripts
+pub use Rattle.h5w_several_scripts.specs.Alone
+pub use Rattle.h5w_core.specs.Worlds
+pub mod Lines
+pub mod Replies
+pub mod Machines
+pub mod Answers
+pub mod Ones
+pub mod Plays
+pub mod Endings
+pub mod Starts
