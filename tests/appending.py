@@ -206,7 +206,7 @@ def unwritten(folder):
     return found + of("the flags then", read(f"{folder}/f")[11], 0)
 
 
-WORDS = ["append", "append f g", "append f --budget 1023", "append f --budget 1073741825", "append f --budget=", "append f --limit 1023", "append f --name a/b", "append f --no-reuse --no-reuse", "append f --values", "append --no-reuse"]
+WORDS = ["append", "append f g", "append f --budget 1023", "append f --budget 1073741825", "append f --budget=", "append f --limit 1023", "append f --name a/b", "append f --no-reuse --no-reuse", "append f --takeover --takeover", "append f --values", "append --no-reuse"]
 
 
 def other_words(folder):

@@ -87,6 +87,7 @@ LOCKED = [
     (["new", "locked/f", *NEW], b"there is no leave to make a file in locked"),
     (["append", "locked/shown"], b"there is no leave to write locked/shown"),
     (["append", "locked/hidden", "--no-reuse"], b"there is no leave to read locked/hidden"),
+    (["append", "--takeover", "locked/hidden"], b"there is no leave to read locked/hidden"),
     (["check", "locked/hidden", "--name", "a b"], b"there is no leave to read locked/hidden"),
     (["poll", "locked/hidden"], b"there is no leave to read locked/hidden"),
 ]

@@ -49,7 +49,7 @@ rows_lines-append c rows (x ∷ bs) b =
     ap (λ (t : List ℕ). count_text (rows + length x / c) ++ t) (rows_lines-append c (rows + length x / c) bs b)
     ∙ sym (append_assoc (count_text (rows + length x / c)) (rows_lines c (rows + length x / c) bs) (count_text (rows_after c (rows + length x / c) bs + length b / c)))
 
-divides : (n c : ℕ) → 1 ≤ c → n * c / c ≡ n
+pub divides : (n c : ℕ) → 1 ≤ c → n * c / c ≡ n
 divides n c some = grind arith
 
 -- so many rows wait

@@ -1,13 +1,10 @@
 -- The making of a file.
-use Rattle.std.proofs.Common.{◌≡◌, ℕ, zero, suc, ◌+◌, ◌<◌, ◌≤◌, Bool, true, false, cond, List, [], ◌∷◌, ◌++◌, length, length-append, append_assoc, append-nil, get_or, take, drop, Option, Some, None, Result, Ok, Err, refl, sym, ap, ap₂, ◌∙◌, subst, inl, inr, arith}
+use Rattle.std.proofs.Common.{◌≡◌, ℕ, zero, suc, ◌+◌, ◌<◌, ◌≤◌, true, false, List, [], ◌∷◌, ◌++◌, length, length-append, append_assoc, append-nil, get_or, take, drop, Option, Some, None, Result, Ok, Err, refl, sym, ap, ap₂, ◌∙◌, subst, inl, inr, arith}
 use Rattle.std.specs.Prelude.{IfErr, IfSome, OnOk, is_none, option_map}
 use Rattle.std.specs.FinMap as finite
 use Rattle.std.specs.List.{AllByRecursion}
 use Rattle.std.specs.Option.{unwrap_or}
-use Rattle.std.specs.Ordering.{nat_cmp, eq_by_cmp}
-use Rattle.std.specs.Cmp.Lexicographic.{slice_cmp, nat_list_cmp_total}
 use Rattle.std.proofs.Math.Seq.{drop-cons, take-append_seam}
-use Rattle.std.proofs.lemmas.List.{drop_all}
 use Rattle.h5w_model.specs.Causes.{Rose}
 use Rattle.h5w_model.specs.Findings.{Used}
 use Rattle.h5w_model.specs.Images.{AllSized, apply, image}
@@ -19,14 +16,15 @@ use Rattle.h5w_model.proofs.ImageLemmas.{AllSized-append, At-apply, image-push}
 use Rattle.h5w_model.proofs.SuperLemmas.{length-super_bytes, super_at-super_bytes}
 use Rattle.h5w_steps.specs.Moments.{Represents, reading_of}
 use Rattle.h5w_steps.proofs.FoundLemmas.{moment_found, moment_shows}
-use Rattle.h5w_image.specs.View.{DiskState, DiskView, Files, Leaves, file, made, put}
+use Rattle.h5w_image.specs.View.{DiskState, DiskView, Leaves, file, made, put}
 use Rattle.h5w_image.proofs.Names.{get-insert_same}
+use Rattle.h5w_image.proofs.DiskLemmas.{rose_from, missing_file, insert_twice}
 use Rattle.h5w_creation_laws.specs.CreatedFiles.{CreatedFile, block_write}
 use Rattle.h5w_creation_laws.specs.CreationLaws.{WritesEndBy}
 use Rattle.h5w_creation.specs.Forms.{IsForm}
 use Rattle.h5w_creation.specs.declared.form.Form.{Form}
 use Rattle.h5w_several_creation.specs.Forms.{AreNames, all_by}
-use Rattle.h5w_several_creation.proofs.SetLemmas.{all_creatable}
+use Rattle.h5w_several_creation.proofs.SetLemmas.{all_creatable, as_many}
 use Rattle.h5w_several_creation_laws.specs.SeveralFiles.{AllNamed, AreCreatable, closed_writes, created_writes, end_behind, end_of, first_place, moment_at, names_of, root_ranges, super_block, super_of}
 use Rattle.h5w_several_creation_laws.specs.SeveralLaws.{EachStands}
 use Rattle.h5w_several_creation_laws.proofs.PlaceLemmas.{end_above}
@@ -40,7 +38,6 @@ use Rattle.h5w_text.specs.declared.error.ErrorLine.{ErrorLine}
 use Rattle.h5w_text.specs.declared.error.ErrorLine.TheVariants as errors
 use Rattle.h5w_text.specs.declared.status.Status.{Status}
 use Rattle.h5w_text.specs.declared.status.Status.TheVariants as statuses
-use Rattle.h5w_files.specs.Images.{LeavesFiles}
 use Rattle.h5w_files.specs.Ends.{IsGivenBy, EndsWell, status_by}
 use Rattle.h5w_files.proofs.ClearLemmas.{any_told}
 use Rattle.h5w_files.proofs.EndLemmas.{completes}
@@ -48,19 +45,9 @@ use Rattle.h5w_appending.specs.Puts.{after_puts, counts_of, writes_of}
 use Rattle.h5w_appending.specs.Creates.{AreEmptyDatasets, CreateEnds, CreatesTo, FillsFew, HasPut, IsEmptyDataset, Makes, PutsFew, PutsUpTo, answer_of, create_line, create_text, end_given, new_bytes, with_new}
 use Rattle.h5w_appending.specs.declared.creating.CreateError.{CreateError}
 use Rattle.h5w_appending.specs.declared.creating.CreateError.TheVariants as refusals
-use Rattle.h5w_appending.proofs.PutLemmas.{are_both, are_of, length-counts, length-writes, no_puts, puts_twice, rose_more, writes-append}
+use Rattle.h5w_appending.proofs.PutLemmas.{are_both, are_of, length-counts, length-writes, no_puts, puts_twice, writes-append}
 
 -- ---- One piece after the other
-
-pub up_to_none : (v : DiskView) (name : List ℕ) (ws : List Write) → PutsUpTo name ws ws v v
-up_to_none v name ws = record {
-  puts = [];
-  pieces = refl;
-  disk = record { told = no_puts name v.told; faults = omega arith; through = refl };
-  since = tt;
-  room = omega arith;
-  ends = omega arith;
-}
 
 one_put : (name : List ℕ) (wr : Write) (faults : ℕ) (t : Option DiskState) → option_map (put name wr faults) t ≡ option_map (after_puts name ((wr, faults) ∷ [])) t
 one_put name wr faults None = refl
@@ -122,12 +109,8 @@ few_put {u} {v} {w} name ws i low p l rose =
         room = omega arith;
         ends = omega arith;
       };
-      rose = rose_more u.faults v.faults w.faults low_faults rose;
+      rose = rose_from u.faults v.faults w.faults low_faults rose;
     }
-
--- all were put
-pub all_up_to : {u v : DiskView} (name : List ℕ) (ws : List Write) (i : ℕ) → length ws ≤ i → PutsUpTo name ws (drop i ws) u v → PutsUpTo name ws [] u v
-all_up_to {u} {v} name ws i h p = subst (λ (xs : List Write). PutsUpTo name ws xs u v) (drop_all i ws h) p
 
 -- what each piece needs
 pub sized_at : (ws : List Write) (i : ℕ) (wr : Write) → AllSized ws → i < length ws → wr ≡ get_or ws i wr → 1 ≤ length wr.piece
@@ -140,29 +123,11 @@ ends_at end [] i wr ends low is = absurd (omega arith)
 ends_at end (w ∷ ws) zero wr ends low is = subst (λ (x : Write). x.at + length x.piece ≤ end) (sym is) (ends.0)
 ends_at end (w ∷ ws) (suc i) wr ends low is = ends_at end ws i wr ends.1 (omega arith) is
 
-pub room_at : {u v : DiskView} (name : List ℕ) (ws : List Write) (i : ℕ) → i < length ws → PutsUpTo name ws (drop i ws) u v → length ws ≤ u.pieces → 1 ≤ v.pieces
-room_at {u} {v} name ws i low p room =
-    let count = ap length p.pieces ∙ length-append (writes_of p.puts) (drop i ws) in
-    let more = p.room in
-    omega (arith, count, length-writes p.puts, some_left ws i low, more, room)
-
 pub ends_higher : (low high : ℕ) (ws : List Write) → low ≤ high → WritesEndBy low ws → WritesEndBy high ws
 ends_higher low high [] le ends = tt
 ends_higher low high (w ∷ ws) le ends = let here = ends.0 in (omega arith, ends_higher low high ws le ends.1)
 
 -- ---- A file that was made
-
-insert_twice : (m : Files) (name b c : List ℕ) → finite.insert (finite.insert m name b) name c ≡ finite.insert m name c
-insert_twice m name b c =
-    finite.same_map nat_list_cmp_total (finite.slice_cmp-IsAntisymmetric finite.nat_cmp-IsAntisymmetric) _ _
-    (λ q. finite.get-insert nat_list_cmp_total (finite.insert m name b) name c q
-    ∙ ap (cond (eq_by_cmp (slice_cmp nat_cmp) q name) (Some c)) (finite.get-insert nat_list_cmp_total m name b q)
-    ∙ twice (eq_by_cmp (slice_cmp nat_cmp) q name) (finite.get m q)
-    ∙ sym (finite.get-insert nat_list_cmp_total m name c q))
-  where
-    twice : (e : Bool) (o : Option (List ℕ)) → cond e (Some c) (cond e (Some b) o) ≡ cond e (Some c) o
-    twice true o = refl
-    twice false o = refl
 
 put_new : (name b : List ℕ) (cs : List ℕ) (w : Write) (c : ℕ) (d : DiskState) → put name w c (with_new name b cs d) ≡ with_new name (apply w b) (cs ++ c ∷ []) d
 put_new name b cs w c d =
@@ -184,43 +149,6 @@ made_new name d = λ i. record { files = finite.insert d.files name []; puts = s
 puts_made : (name : List ℕ) (ps : List (Write × ℕ)) (t : Option DiskState) → option_map (after_puts name ps) (option_map (made name) t) ≡ option_map (with_new name (image [] (writes_of ps)) (counts_of ps)) t
 puts_made name ps None = refl
 puts_made name ps (Some d) = ap Some (ap (after_puts name ps) (made_new name d) ∙ puts_new name [] [] ps d)
-
-none_is : (o : Option (List ℕ)) → true ≡ is_none o → o ≡ None
-none_is None e = refl
-none_is (Some b) e = absurd (cc)
-
-missing_file : (name : List ℕ) (t : Option DiskState) → IfSome t (λ d. true ≡ is_none (file d name)) → IfSome t (λ d. file d name ≡ None)
-missing_file name None h = tt
-missing_file name (Some d) h = none_is (file d name) h
-
-pub leaves_same : {v w : DiskView} → Leaves 0 v.told v w → LeavesFiles v.told v w
-leaves_same p = record { told = p.told; faults = p.faults; through = p.through }
-
--- room was made before
-pub up_to_behind : {u v w : DiskView} (name : List ℕ) (ws left : List Write) → Leaves 0 u.told u v → v.faults ≡ u.faults → PutsUpTo name ws left v w → PutsUpTo name ws left u w
-up_to_behind {u} {v} {w} name ws left l calm p =
-    let first = p.room in
-    let second = l.pieces in
-    let low_faults = p.disk.faults in
-    let more_faults = l.faults in
-    let ends = p.ends in
-    let end = l.end name in
-    record {
-      puts = p.puts;
-      pieces = p.pieces;
-      disk = record { told = p.disk.told ∙ ap (option_map (after_puts name p.puts)) l.told; faults = omega arith; through = p.disk.through ∙ l.through };
-      since = are_of v.faults u.faults (counts_of p.puts) calm p.since;
-      room = omega arith;
-      ends = omega arith;
-    }
-
-pub few_behind : {u v w : DiskView} (name : List ℕ) (ws : List Write) → Leaves 0 u.told u v → v.faults ≡ u.faults → PutsFew name ws v w → PutsFew name ws u w
-few_behind {u} {v} {w} name ws l calm p = record {
-  left = p.left;
-  some = p.some;
-  before = up_to_behind name ws p.left l calm p.before;
-  rose = rose_more u.faults v.faults w.faults l.faults p.rose;
-}
 
 -- so many of its pieces
 has_put : {u v w : DiskView} (name : List ℕ) (ws left : List Write) → IfSome u.told (λ d. true ≡ is_none (file d name)) → Leaves 0 (option_map (made name) u.told) u v → v.faults ≡ u.faults
@@ -256,7 +184,7 @@ made_few u v w name ws refusals.Failed missing m calm p =
     let low = m.faults in
     let some = p.some in (
       inr (record { pieces = length p.before.puts; few = omega (arith, count_of name ws p.left p.before, some); before = has_put name ws p.left missing m calm p.before }),
-      rose_more u.faults v.faults w.faults low p.rose,
+      rose_from u.faults v.faults w.faults low p.rose,
     )
 made_few u v w name ws refusals.OutOfMemory missing m calm p =
     let low = m.faults in
@@ -283,10 +211,6 @@ made_by u v w name ws (Err e) missing m calm p calmer few = made_few u v w name 
 names_same : (names : List (List ℕ)) (form : Form) → names_of (all_by names form) ≡ names
 names_same [] form = refl
 names_same (name ∷ names) form = ap (λ (ns : List (List ℕ)). name ∷ ns) (names_same names form)
-
-as_many : (names : List (List ℕ)) (form : Form) → length (all_by names form) ≡ length names
-as_many [] form = refl
-as_many (name ∷ names) form = let rest = as_many names form in omega arith
 
 pub all_may : (names : List (List ℕ)) (form : Form) → IsForm form → AreNames names → AllNamed names → AreCreatable (all_by names form)
 all_may names form h are named =

@@ -14,7 +14,7 @@ use Rattle.h5w_text.specs.declared.error.ErrorLine.TheVariants as errors
 use Rattle.h5w_input.specs.declared.line.LineError.{LineError}
 use Rattle.h5w_input.specs.declared.line.LineError.TheVariants as line_errors
 use Rattle.h5w_batches.specs.Batches.{Batches, after_line, after_lines, close_batch, no_batches}
-use Rattle.h5w_batches.specs.Inputs.{AreFirst, ReadsAll, ReadsTooMuch, ReadsWhole, SameSource, Spell, input_limit, outside}
+use Rattle.h5w_batches.specs.Inputs.{AreFirst, ReadsAll, ReadsTooMuch, ReadsWhole, Spell, input_limit, outside}
 use Rattle.h5w_batches.specs.Reads.{error_of}
 use Rattle.h5w_files.specs.Images.{LeavesFiles}
 use Rattle.h5w_appending.specs.Taken.{AreTaken, ReadsFirst, ReadsLine, of_all, of_first}
@@ -252,9 +252,6 @@ input_of n name q r a s b t i v w k l z h none same given =
     (subst (λ (y : SourceView). TakesInputOn n name q r a y v w k l z) given
     (subst (λ (x : SourceView). TakesInputOn n name q r x b v w k l z) (starts a i none) h))
 
-pub same_source_of : {a s b t : SourceView} → SameSource a b → a ≡ s → b ≡ t → SameSource s t
-same_source_of {a} {s} {b} {t} h same given = subst (λ (x : SourceView). SameSource x t) same (subst (λ (y : SourceView). SameSource a y) given h)
-
 pub ready_source : {w : DiskView} (name : List ℕ) (t : Session) (e : LineError) → IsReady name t w → ReadyUnlessDisk name t w (Err (ending_of (error_of e)))
 ready_source name t line_errors.Failed ready = ready
 ready_source name t (line_errors.Input limit) ready = ready
@@ -266,7 +263,7 @@ nothing_read : (columns : ℕ) (x y : SourceView) → AreTaken columns x y no_ba
 nothing_read columns x y = of_first [] (record { lines = []; spell = refl; first = first_none x.left })
 
 pub ready_begun : {v w : DiskView} (n : ℕ) (name : List ℕ) (s t : Session) → 1 ≤ s.dataset.shape.cols → PutsAll n name s t v w → IsBegun name s v → IsReady name t w
-ready_begun n name s t columns q begun = let one = begun.one in let room = begun.room in ready_put n name s t begun.there begun.running columns (omega (arith, one, room)) begun.end q
+ready_begun n name s t columns q begun = ready_put n name s t begun.there begun.running columns begun.room begun.end q
 
 pub told_begun : {u v w : DiskView} (k : SinkView) (n : ℕ) (name : List ℕ) (s t : Session) → u.faults ≡ n → LeavesFiles u.told u v → PutsAll n name s t v w → IsBegun name s v → Told name s t no_batches u w k k
 told_begun k n name s t counted p q begun =

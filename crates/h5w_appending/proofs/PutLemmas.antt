@@ -1,13 +1,12 @@
 -- The pieces of a session in a file of a disk.
-use Rattle.std.proofs.Common.{◌≡◌, ℕ, ◌+◌, ◌≤◌, true, false, Bool, List, [], ◌∷◌, ◌++◌, length, drop, Option, Some, None, refl, sym, ap, ◌∙◌, subst, arith, append_assoc, length-append}
-use Rattle.std.specs.Prelude.{slice_get, IfSome, IsSome, option_map}
-use Rattle.std.specs.Option.{unwrap_or}
+use Rattle.std.proofs.Common.{◌≡◌, ℕ, ◌+◌, ◌≤◌, true, false, Bool, List, [], ◌∷◌, ◌++◌, length, Option, Some, None, refl, sym, ap, ◌∙◌, subst, arith, append_assoc, length-append}
+use Rattle.std.specs.Prelude.{IfSome, IsSome, option_map}
 use Rattle.std.proofs.lemmas.List.{nil_from_length}
 use Rattle.h5w_model.specs.Causes.{Rose}
 use Rattle.h5w_model.specs.Logs.{Log, and_now, shows}
 use Rattle.h5w_model.specs.declared.piece.Write.{Write}
 use Rattle.h5w_image.specs.View.{DiskState, DiskView, IsThere, Leaves, file, put}
-use Rattle.h5w_image.proofs.DiskLemmas.{there_after_put}
+use Rattle.h5w_image.proofs.DiskLemmas.{there_after_put, rose_from}
 use Rattle.h5w_space.specs.Space.{Space}
 use Rattle.h5w_session.specs.Sessions.{AfterPiece, Freed, Session, Settles}
 use Rattle.h5w_session.specs.Stands.{Stands}
@@ -60,9 +59,6 @@ are-append n (c ∷ cs) ds all more = (all.0, are-append n cs ds all.1 more)
 -- of puts, and more behind them
 pub are_both : (n : ℕ) (ps qs : List (Write × ℕ)) → AllAre n (counts_of ps) → AllAre n (counts_of qs) → AllAre n (counts_of (ps ++ qs))
 are_both n ps qs all more = subst (λ (cs : List ℕ). AllAre n cs) (sym (counts-append ps qs)) (are-append n (counts_of ps) (counts_of qs) all more)
-
-pub rose_more : (a b c : ℕ) → a ≤ b → Rose b c → Rose a c
-rose_more a b c low rose = omega (arith, low, rose)
 
 -- ---- A file that is there stays
 
@@ -223,20 +219,11 @@ unfolding puts_then
 some_then {u} {v} {w} name r s t calm p q = record {
   before = puts_then name r s t calm p q.before;
   left = q.left;
-  rose = rose_more u.faults v.faults w.faults p.disk.faults q.rose;
+  rose = rose_from u.faults v.faults w.faults p.disk.faults q.rose;
 }
 
 pub none_left : (ws : List Write) → length ws ≤ 0 → ws ≡ []
 none_left ws few = nil_from_length ws (omega (arith, few))
-
--- ---- The oldest of some writes
-
-some_is : (v w : Write) → Some v ≡ Some w → v ≡ w
-some_is v w same = ap (λ o. unwrap_or o v) same
-
-pub oldest : (w : Write) (ws : List Write) → Some w ≡ slice_get ws 0 → ws ≡ w ∷ drop 1 ws
-oldest w [] none = cc
-oldest w (x ∷ xs) same = ap (λ y. y ∷ xs) (sym (some_is w x same))
 
 -- ---- What is left
 

@@ -96,7 +96,7 @@ shut_by v w n name s t r (Err endings.Sink) idle closed reads stands q = absurd 
 
 -- ---- Behind what was taken
 
-none_waiting : (c n : ℕ) → 1 ≤ c → 0 ≡ n * c → n ≡ 0
+pub none_waiting : (c n : ℕ) → 1 ≤ c → 0 ≡ n * c → n ≡ 0
 none_waiting c n some e = grind (arith, e, some)
 
 -- how many rows there are behind all batches

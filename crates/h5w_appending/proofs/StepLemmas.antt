@@ -1,17 +1,11 @@
 -- The steps of an append: batches that are closed, and lines that are taken.
-use Rattle.std.proofs.Common.{◌≡◌, ◌≢◌, ◌⊎◌, ℕ, ◌+◌, ◌*◌, ◌≤◌, Bool, true, false, List, [], ◌∷◌, ◌++◌, length, ℤ, Option, Some, None, Result, Ok, Err, refl, sym, ap, ◌∙◌, subst, inl, inr, arith, append-nil}
-use Rattle.std.specs.Prelude.{IfSome, IsSome, OnOk, nat_lt, if◌then◌else◌}
+use Rattle.std.proofs.Common.{◌≡◌, ◌≢◌, ◌⊎◌, ℕ, ◌+◌, ◌*◌, ◌≤◌, true, false, List, [], ◌∷◌, ◌++◌, length, ℤ, Some, Result, Ok, Err, refl, sym, ap, ◌∙◌, subst, inl, inr, arith, append-nil}
+use Rattle.std.specs.Prelude.{IfSome, IsSome, OnOk, if◌then◌else◌}
 use Rattle.h5w_model.specs.Causes.{Rose}
 use Rattle.h5w_model.specs.Datasets.{Described}
-use Rattle.h5w_model.specs.Lawful.{first_outside}
 use Rattle.h5w_model.specs.declared.piece.Write.{Write}
 use Rattle.h5w_image.specs.View.{DiskView, IsThere, file}
-use Rattle.h5w_session.specs.Refusals.{append_refusal, flush_refusal, IsSpace}
 use Rattle.h5w_session.specs.Sessions.{Session, rows_of}
-use Rattle.h5w_session.specs.declared.refusal.AppendError.{AppendError}
-use Rattle.h5w_session.specs.declared.refusal.AppendError.TheVariants as append_errors
-use Rattle.h5w_session.specs.declared.refusal.FlushError.{FlushError}
-use Rattle.h5w_session.specs.declared.refusal.FlushError.TheVariants as flush_errors
 use Rattle.h5w_input.specs.Scripts.{number_line_of}
 use Rattle.h5w_text.specs.Streams.{SinkView, Gave, GaveSome}
 use Rattle.h5w_text.specs.declared.error.ErrorLine.{ErrorLine}
@@ -29,56 +23,6 @@ use Rattle.h5w_files.proofs.SinkLemmas.{gave_both}
 use Rattle.h5w_appending.proofs.StoreLemmas.{broke_batch, broke_before, broke_puts, stored_batch, stored_puts, stored_same, stored_unflushed, stored_values}
 
 -- ---- Refusals that a session gives which is ready
-
-some_is : {A : Type 0} (a b : A) → Some a ≡ Some b → a ≡ b
-some_is a b e = cc
-
-refusal_cases : {E : Type 0} (stopped : Bool) (pending : ℕ) (x e : E) (y : ℕ → E) (o : Option E) → stopped ≡ false → pending ≡ 0
-    → (if stopped then Some x else if nat_lt 0 pending then Some (y pending) else o) ≡ Some e → o ≡ Some e
-refusal_cases true pending x e y o running idle h = absurd (cc)
-refusal_cases false pending x e y o running idle h = subst (λ n. (if nat_lt 0 n then Some (y n) else o) ≡ Some e) idle h
-
-values_cases : (f : Option (ℕ × ℤ)) (b : Bool) (chunks limit : ℕ) (e : AppendError)
-    → (elim f [ Some x ↦ Some (append_errors.OutOfRange x.0 x.1) | None ↦ (if b then Some (append_errors.Chunks chunks limit) else None) ]) ≡ Some e
-    → ((x : ℕ × ℤ) × (e ≡ append_errors.OutOfRange x.0 x.1)) ⊎ (e ≡ append_errors.Chunks chunks limit)
-values_cases (Some x) b chunks limit e h = let is : append_errors.OutOfRange x.0 x.1 ≡ e = cc in inl (x, sym is)
-values_cases None true chunks limit e h = let is : append_errors.Chunks chunks limit ≡ e = cc in inr (sym is)
-values_cases None false chunks limit e h = absurd (cc)
-
-abbrev CauseOf : Session → List ℤ → AppendError → Type 0
-CauseOf s values e = (append_refusal s values ≡ Some e) ⊎ ((e ≡ append_errors.Failed) ⊎ (e ≡ append_errors.OutOfMemory))
-
-never : (s : Session) (values : List ℤ) (e : AppendError) → s.stopped ≡ false → s.pending ≡ [] → CauseOf s values e → ((i : ℕ) (x : ℤ) → e ≡ append_errors.OutOfRange i x → ⊥) → ((c l : ℕ) → e ≡ append_errors.Chunks c l → ⊥) → (e ≡ append_errors.Failed → ⊥)
-    → (e ≡ append_errors.OutOfMemory → ⊥) → ⊥
-never s values e running idle (inr (inl f)) no_range no_chunks no_fault no_memory = no_fault f
-never s values e running idle (inr (inr m)) no_range no_chunks no_fault no_memory = no_memory m
-never s values e running idle (inl r) no_range no_chunks no_fault no_memory =
-    let h = refusal_cases s.stopped (length s.pending) append_errors.Stopped e (λ n. append_errors.Busy n) _ running (ap length idle) r in
-    elim (values_cases (first_outside s.dataset.int_type 0 values) _ _ _ e h) [ inl x ↦ no_range x.0.0 x.0.1 x.1 | inr c ↦ no_chunks _ _ c ]
-
-outside_case : (f : Option (ℕ × ℤ)) (b : Bool) (chunks limit i : ℕ) (x : ℤ)
-    → (elim f [ Some y ↦ Some (append_errors.OutOfRange y.0 y.1) | None ↦ (if b then Some (append_errors.Chunks chunks limit) else None) ]) ≡ Some (append_errors.OutOfRange i x) → f ≡ Some (i, x)
-outside_case (Some y) b chunks limit i x h = let first : y.0 ≡ i = cc in let second : y.1 ≡ x = cc in (λ j. Some (first j, second j))
-outside_case None true chunks limit i x h = absurd (cc)
-outside_case None false chunks limit i x h = absurd (cc)
-
-pub out_of_range : {v : DiskView} (name : List ℕ) (s : Session) (values : List ℤ) (i : ℕ) (x : ℤ) → IsReady name s v → CauseOf s values (append_errors.OutOfRange i x) → first_outside s.dataset.int_type 0 values ≡ Some (i, x)
-out_of_range name s values i x ready (inl r) =
-    outside_case (first_outside s.dataset.int_type 0 values) _ _ _ i x
-    (refusal_cases s.stopped (length s.pending) append_errors.Stopped (append_errors.OutOfRange i x) (λ n. append_errors.Busy n) _ ready.running (ap length ready.idle) r)
-out_of_range name s values i x ready (inr (inl e)) = absurd (cc)
-out_of_range name s values i x ready (inr (inr e)) = absurd (cc)
-
-pub too_many : (s : Session) (values : List ℤ) (c l : ℕ) → CauseOf s values (append_errors.Chunks c l) → append_refusal s values ≡ Some (append_errors.Chunks c l)
-too_many s values c l (inl r) = r
-too_many s values c l (inr (inl e)) = absurd (cc)
-too_many s values c l (inr (inr e)) = absurd (cc)
-
-abbrev FlushCause : Session → FlushError → Type 0
-FlushCause s e = (flush_refusal s ≡ Some e) ⊎ (IsSpace e ⊎ ((e ≡ flush_errors.Deep) ⊎ ((e ≡ flush_errors.Failed) ⊎ (e ≡ flush_errors.OutOfMemory))))
-
-not_refused : (s : Session) (e : FlushError) → s.stopped ≡ false → s.pending ≡ [] → flush_refusal s ≡ Some e → ⊥
-not_refused s e running idle r = let none : ◌≡◌ {A = Option FlushError} None (Some e) = refusal_cases s.stopped (length s.pending) flush_errors.Stopped e (λ n. flush_errors.Busy n) None running (ap length idle) r in cc
 
 there_unput : {v w : DiskView} (name : List ℕ) → Unput name v w → IsThere v name → IsThere w name
 there_unput name p there = subst (λ t. IfSome t (λ d. IsSome (file d name))) (sym p.disk.told) there
@@ -131,7 +75,7 @@ some_columns name first s b h r = subst (λ n. 1 ≤ n) (columns_same first s b 
 pub told_unput : {u v w : DiskView} {k l : SinkView} (name : List ℕ) (first s : Session) (b : Batches) → Unput name v w → Told name first s b u v k l → Told name first s b u w k l
 told_unput name first s b p t = record { stored = stored_same name first s b p t.stored; gave = t.gave }
 
-nothing_put : (v : DiskView) (name : List ℕ) → Unput name v v
+pub nothing_put : (v : DiskView) (name : List ℕ) → Unput name v v
 nothing_put v name = record { disk = record { told = refl; faults = omega arith; through = refl }; room = omega arith; end = omega arith }
 
 -- the line of a batch

@@ -8,6 +8,7 @@ use Rattle.h5w_model.specs.declared.piece.Write.{Write}
 use Rattle.h5w_model.specs.declared.root.Super.{Super}
 use Rattle.h5w_model.specs.Datasets.{Described}
 use Rattle.h5w_image.specs.View.{DiskView, ImageView, Same}
+use Rattle.h5w_image.proofs.DiskLemmas.{rose_from}
 use Rattle.h5w_session.specs.Openings.{opened_log}
 use Rattle.h5w_session.specs.Room.{HasRoomFor}
 use Rattle.h5w_session.specs.Sessions.{AddsValues, IsNamed, Session, TakesRows, rows_of}
@@ -20,7 +21,7 @@ use Rattle.h5w_appending.specs.Appends.{Broke, HasTaken, IsLogOf, Settled, Store
 use Rattle.h5w_appending.specs.Appending.{AppendsAll, Halted, HasNone, Planned, PutsAll, PutsHalted, Unflushed, Unput}
 use Rattle.h5w_appending.proofs.BatchLemmas.{batch_rows, plan_done, plan_open, showing_appended, showing_flushed, showing_hist, showing_same, values_closed}
 use Rattle.h5w_files.proofs.ImageLemmas.{same_name}
-use Rattle.h5w_appending.proofs.PutLemmas.{are_both, are_of, no_puts, none_put, puts_twice, rose_more, writes-append}
+use Rattle.h5w_appending.proofs.PutLemmas.{are_both, are_of, no_puts, none_put, puts_twice, writes-append}
 
 -- ---- Disks
 
@@ -86,7 +87,7 @@ first_put vs s t ps qs pieces h =
     (h.0, h.1 ∙ ap (λ (x : List Write). writes_of ps ++ x) pieces ∙ sym (append_assoc (writes_of ps) (writes_of qs) t.pending) ∙ ap (λ (x : List Write). x ++ t.pending) (sym (writes-append ps qs)))
 
 -- and then more
-first_more : (vs ws xs : List Write) → ComesFirst vs ws → ComesFirst vs (ws ++ xs)
+pub first_more : (vs ws xs : List Write) → ComesFirst vs ws → ComesFirst vs (ws ++ xs)
 first_more vs ws xs h = (h.0 ++ xs, sym (append_assoc vs h.0 xs) ∙ ap (λ (x : List Write). x ++ xs) h.1)
 
 -- of a session that has nothing pending
@@ -228,7 +229,7 @@ broke_before {u} {v} {w} name first s t b a p rose h = record {
   puts = h.puts;
   disk = unput_more name h.puts h.disk p.disk;
   since = h.since;
-  rose = rose_more u.faults v.faults w.faults h.disk.faults rose;
+  rose = rose_from u.faults v.faults w.faults h.disk.faults rose;
   begins = agrees first.pending (writes_of h.puts) s.pending h.begins;
   logs = λ img columns xs stands. let l = h.logs img columns xs stands in record {
     session = t;

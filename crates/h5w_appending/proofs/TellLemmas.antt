@@ -23,7 +23,9 @@ use Rattle.h5w_session.specs.Sessions.{Session, chunk_limit, chunks_with, cuttin
 use Rattle.h5w_session.specs.declared.refusal.AppendError.{AppendError}
 use Rattle.h5w_session.specs.declared.refusal.AppendError.TheVariants as appends
 use Rattle.h5w_session.proofs.LawLemmas.{standing_laws}
-use Rattle.h5w_session_open.specs.OpenAnswers.{IsNotOpened, IsOpenedOver, unfound, damaged, refused}
+use Rattle.h5w_header_laws.specs.Files.{chunk_0}
+use Rattle.h5w_several_open.specs.Beginnings.{IsBegunOver, IsNotBegun, is_damaged, is_refused, not_found}
+use Rattle.h5w_several_open.proofs.BeginningLemmas.{begun_dataset}
 use Rattle.h5w_session_open.specs.OpenRanges.{cut_at, ranges_refused, refused_index, refused_open}
 use Rattle.h5w_session_open.specs.declared.index.NoIndex.{NoIndex}
 use Rattle.h5w_session_open.specs.declared.index.NoIndex.TheVariants.{Unnamed, Empty, WrongTotals, Unordered}
@@ -33,6 +35,7 @@ use Rattle.h5w_text.specs.declared.error.ErrorLine.{ErrorLine}
 use Rattle.h5w_text.specs.declared.error.ErrorLine.TheVariants as errors
 use Rattle.h5w_text.specs.declared.status.Status.{Status}
 use Rattle.h5w_batches.specs.Batches.{Batches}
+use Rattle.h5w_several_open.specs.declared.beginning.Beginning.{Beginning}
 use Rattle.h5w_appending.specs.Taken.{rows_after}
 use Rattle.h5w_appending.specs.Puts.{writes_of}
 use Rattle.h5w_appending.specs.Appends.{AppendEnds, AppendsCut, AppendsTo, Broken, Closed, InputRefuses, IsFree, IsHalted, IsLogOf, IsOpenOver, NeedsChunks, NeedsDepth, NeedsPlace, NotOpened, columns_of}
@@ -46,18 +49,18 @@ none_behind None None c h = refl
 none_behind None (Some e) c h = absurd (cc)
 none_behind (Some e) b c h = absurd (cc)
 
-dataset_in : (img at : List ℕ) (limit budget : ℕ) (s : Session) → IsOpenedOver img (length img) at limit budget s → IsDatasetIn img at s.dataset
-dataset_in img at limit budget s h = record {
+dataset_in : {by : Beginning} (img at : List ℕ) (limit budget : ℕ) (s : Session) → IsBegunOver by img (length img) at limit budget s → IsDatasetIn by img at s.dataset
+dataset_in {by = by} img at limit budget s h = record {
   found = h.found;
   is = h.is;
   unrefused = none_behind (ranges_refused h.found h.index) (refused_dataset h.found) (refused_index h.found.header.dataset h.index) h.unrefused;
-  dataset = sym (ap (λ (x : Session). x.dataset) h.session);
+  dataset = sym (ap (λ (x : Session). x.dataset) h.session ∙ begun_dataset by h.found (chunk_0 img h.found.place) h.kept at limit budget);
 }
 
-has_dataset : {v : DiskView} (name at : List ℕ) (limit budget : ℕ) (keeps : Bool) (first : Session) → IsOpenOver name at limit budget keeps v first → HasDataset name at v first.dataset
-has_dataset name at limit budget keeps first h =
+has_dataset : {v : DiskView} {by : Beginning} (name at : List ℕ) (limit budget : ℕ) (keeps : Bool) (first : Session) → IsOpenOver by name at limit budget keeps v first → HasDataset by name at v first.dataset
+has_dataset {by = by} name at limit budget keeps first h =
     let same : h.opened.dataset ≡ first.dataset = sym (ap (λ (x : Session). x.dataset) h.is) in
-    record { there = h.there; is = λ img told. subst (λ (d : Described). IsDatasetIn img at d) same (dataset_in img at limit budget h.opened (h.exact img told)) }
+    record { there = h.there; is = λ img told. subst (λ (d : Described). IsDatasetIn by img at d) same (dataset_in img at limit budget h.opened (h.exact img told)) }
 
 -- ---- Why it is not opened
 
@@ -84,19 +87,19 @@ open_behind o a e h = first (ranges_refused o a) refl h
     first (Some f) is h = range_behind o _ _ _ e (is ∙ h)
     first None is h = second (refused_dataset o) refl h
 
-unopened_in : (img at : List ℕ) (e : OpenError) → IsNotOpened img (length img) at e → IsUnopened img at e
-unopened_in img at e (unfound f is) = of_headers is
-unopened_in img at e (damaged o place f is bad) = of_index o is (of_block place f)
-unopened_in img at e (refused o a f is index behind) = of_index o is (open_behind o a f behind)
+unopened_in : {by : Beginning} (img at : List ℕ) (e : OpenError) → IsNotBegun by img (length img) at e → IsUnopened by img at e
+unopened_in img at e (not_found f is) = of_headers is
+unopened_in img at e (is_damaged o place f is bad) = of_index o is (of_block place f)
+unopened_in img at e (is_refused o a f is index behind) = of_index o is (open_behind o a f behind)
 
-why_in : (at : List ℕ) (t : Option (List ℕ)) (e : ErrorLine) → NotOpened at t e → TellsWhy at t e
-why_in at None e h = h
-why_in at (Some img) e h = (h.0, h.1, unopened_in img at h.0 h.2)
+why_in : (by : Beginning) (at : List ℕ) (t : Option (List ℕ)) (e : ErrorLine) → NotOpened by at t e → TellsWhy by at t e
+why_in by at None e h = h
+why_in by at (Some img) e h = (h.0, h.1, unopened_in img at h.0 h.2)
 
-why_told : (name at : List ℕ) (t : Option DiskState) (e : ErrorLine) → IfSome t (λ d. IsFree e ⊎ NotOpened at (file d name) e) → IfSome t (λ d. IsFree e ⊎ TellsWhy at (file d name) e)
-why_told name at None e h = tt
-why_told name at (Some d) e (inl free) = inl free
-why_told name at (Some d) e (inr why) = inr (why_in at (file d name) e why)
+why_told : (by : Beginning) (name at : List ℕ) (t : Option DiskState) (e : ErrorLine) → IfSome t (λ d. IsFree e ⊎ NotOpened by at (file d name) e) → IfSome t (λ d. IsFree e ⊎ TellsWhy by at (file d name) e)
+why_told by name at None e h = tt
+why_told by name at (Some d) e (inl free) = inl free
+why_told by name at (Some d) e (inr why) = inr (why_in by at (file d name) e why)
 
 -- ---- The log
 
@@ -126,7 +129,7 @@ log_over img at columns values ws b h =
 
 -- ---- What is left
 
-is_closed : {v w : DiskView} (name at : List ℕ) (limit budget : ℕ) (keeps : Bool) (first : Session) (b : Batches) → IsOpenOver name at limit budget keeps v first → Closed name at first b v w → IsClosed name at b v w
+is_closed : {v w : DiskView} {by : Beginning} (name at : List ℕ) (limit budget : ℕ) (keeps : Bool) (first : Session) (b : Batches) → IsOpenOver by name at limit budget keeps v first → Closed by name at first b v w → IsClosed by name at b v w
 is_closed name at limit budget keeps first b opened c =
     let puts = c.closed.puts in
     record {
@@ -140,7 +143,7 @@ is_closed name at limit budget keeps first b opened c =
       shut = c.shut;
     }
 
-is_broken : {v w : DiskView} (name at : List ℕ) (limit budget : ℕ) (keeps : Bool) (first : Session) (b : Batches) → IsOpenOver name at limit budget keeps v first → Broken name at first b v w → IsBroken name at b v w
+is_broken : {v w : DiskView} {by : Beginning} (name at : List ℕ) (limit budget : ℕ) (keeps : Bool) (first : Session) (b : Batches) → IsOpenOver by name at limit budget keeps v first → Broken name at first b v w → IsBroken name at b v w
 is_broken name at limit budget keeps first b opened c =
     let puts = c.broke.puts in
     record {
@@ -155,7 +158,7 @@ is_broken name at limit budget keeps first b opened c =
 
 -- ---- Why an input is not taken to its end
 
-other_refusal : (a b : Bool) (n : ℕ) (o : Option (ℕ × ℤ)) (more : Option AppendError) (chunks most : ℕ)
+pub other_refusal : (a b : Bool) (n : ℕ) (o : Option (ℕ × ℤ)) (more : Option AppendError) (chunks most : ℕ)
     → (if a then Some appends.Stopped else if b then Some (appends.Busy n) else elim o as (λ _. Option AppendError) [ Some x ↦ Some (appends.OutOfRange x.0 x.1) | None ↦ more ]) ≡ Some (appends.Chunks chunks most) → more ≡ Some (appends.Chunks chunks most)
 other_refusal true b n o more chunks most h = absurd (cc)
 other_refusal false true n o more chunks most h = absurd (cc)
@@ -163,7 +166,7 @@ other_refusal false false n (Some x) more chunks most h = absurd (cc)
 other_refusal false false n None more chunks most h = h
 
 -- the chunks that are needed, their limit, and which is more
-record ArePast (a b chunks most : ℕ) : Type 0 where
+pub record ArePast (a b chunks most : ℕ) : Type 0 where
   chunks_are : chunks ≡ b
   limit_is : most ≡ a
   past : a < b
@@ -205,7 +208,7 @@ lacks_chunks first s b chunks most h =
       past = omega (arith, above, limit_is, chunks_are);
     }
 
-lacks_room : {v : DiskView} (name at : List ℕ) (limit budget : ℕ) (keeps : Bool) (first : Session) (s t : SourceView) (b : Batches) (full : Full) → IsOpenOver name at limit budget keeps v first → NeedsPlace name first s t b v full → LacksRoom name at limit first.dataset s t b v full
+lacks_room : {v : DiskView} {by : Beginning} (name at : List ℕ) (limit budget : ℕ) (keeps : Bool) (first : Session) (s t : SourceView) (b : Batches) (full : Full) → IsOpenOver by name at limit budget keeps v first → NeedsPlace name first s t b v full → LacksRoom name at limit first.dataset s t b v full
 lacks_room name at limit budget keeps first s t b full opened h = record {
   closes = record { numbers = h.numbers; batches = h.batches; read = h.read };
   lacks = λ img rows columns values sm told valid reads.
@@ -231,7 +234,7 @@ lacks_room name at limit budget keeps first s t b full opened h = record {
 lacks_depth : {v : DiskView} (name : List ℕ) (first : Session) (s t : SourceView) (b : Batches) → NeedsDepth name first s t b v → Closes (columns_of first) s t b
 lacks_depth name first s t b h = record { numbers = h.numbers; batches = h.batches; read = h.read }
 
-is_why : {v : DiskView} (name at : List ℕ) (limit budget : ℕ) (keeps : Bool) (first : Session) (s t : SourceView) (b : Batches) (e : ErrorLine) → IsOpenOver name at limit budget keeps v first → InputRefuses name first s t b v e → IsWhy name at limit first.dataset s t b v e
+is_why : {v : DiskView} {by : Beginning} (name at : List ℕ) (limit budget : ℕ) (keeps : Bool) (first : Session) (s t : SourceView) (b : Batches) (e : ErrorLine) → IsOpenOver by name at limit budget keeps v first → InputRefuses name first s t b v e → IsWhy name at limit first.dataset s t b v e
 is_why name at limit budget keeps first s t b (errors.Line n) opened h = h
 is_why name at limit budget keeps first s t b (errors.Range n i x) opened h = h
 is_why name at limit budget keeps first s t b (errors.FullChunks chunks most) opened h = lacks_chunks first s b chunks most h
@@ -256,8 +259,8 @@ is_why name at limit budget keeps first s t b errors.Disk opened h = absurd h
 
 -- ---- The whole append
 
-tells_to : (v w : DiskView) (name at : List ℕ) (limit budget : ℕ) (keeps : Bool) (s t : SourceView) (r : Result (Unit {0}) ErrorLine) (front last : List ℕ) → AppendsTo name at limit budget keeps s t v w r front last → TellsTo name at limit s t v w r front last
-tells_to v w name at limit budget keeps s t (Ok a) front last h = record {
+tells_to : (by : Beginning) (v w : DiskView) (name at : List ℕ) (limit budget : ℕ) (keeps : Bool) (s t : SourceView) (r : Result (Unit {0}) ErrorLine) (front last : List ℕ) → AppendsTo by name at limit budget keeps s t v w r front last → TellsTo by name at limit s t v w r front last
+tells_to by v w name at limit budget keeps s t (Ok a) front last h = record {
   d = h.first.dataset;
   dataset = has_dataset name at limit budget keeps h.first h.opened;
   numbers = h.numbers;
@@ -267,16 +270,16 @@ tells_to v w name at limit budget keeps s t (Ok a) front last h = record {
   front_is = h.front_is;
   last_is = h.last_is;
 }
-tells_to v w name at limit budget keeps s t (Err e) front last (inl h) = inl (record {
+tells_to by v w name at limit budget keeps s t (Err e) front last (inl h) = inl (record {
   disk = h.unopened.disk;
-  exact = why_told name at v.told e h.unopened.exact;
+  exact = why_told by name at v.told e h.unopened.exact;
   kinds = h.unopened.kinds;
   cause = h.unopened.cause;
   unread = h.unread;
   front_is = h.front_is;
   last_is = h.last_is;
 })
-tells_to v w name at limit budget keeps s t (Err e) front last (inr (inl h)) = inr (inl (record {
+tells_to by v w name at limit budget keeps s t (Err e) front last (inr (inl h)) = inr (inl (record {
   d = h.first.dataset;
   dataset = has_dataset name at limit budget keeps h.first h.opened;
   batches = h.batches;
@@ -286,7 +289,7 @@ tells_to v w name at limit budget keeps s t (Err e) front last (inr (inl h)) = i
   front_is = h.front_is;
   last_is = h.last_is;
 }))
-tells_to v w name at limit budget keeps s t (Err e) front last (inr (inr h)) = inr (inr (
+tells_to by v w name at limit budget keeps s t (Err e) front last (inr (inr h)) = inr (inr (
   h.0,
   record {
     d = h.1.first.dataset;
@@ -299,8 +302,8 @@ tells_to v w name at limit budget keeps s t (Err e) front last (inr (inr h)) = i
   },
 ))
 
-tells_cut : {v w : DiskView} {k l : SinkView} (name at : List ℕ) (limit budget : ℕ) (keeps : Bool) (s t : SourceView) → AppendsCut name at limit budget keeps s t v w k l → TellsCut name at s t v w k l
-tells_cut {v} {w} name at limit budget keeps s t h = record {
+tells_cut : {v w : DiskView} {k l : SinkView} {by : Beginning} (name at : List ℕ) (limit budget : ℕ) (keeps : Bool) (s t : SourceView) → AppendsCut by name at limit budget keeps s t v w k l → TellsCut by name at s t v w k l
+tells_cut {v = v} {w = w} {by = by} name at limit budget keeps s t h = record {
   d = h.first.dataset;
   dataset = has_dataset name at limit budget keeps h.first h.opened;
   batches = h.batches;
@@ -309,19 +312,19 @@ tells_cut {v} {w} name at limit budget keeps s t h = record {
   left = cases h.left;
 }
   where
-    cases : Closed name at h.first h.batches v w ⊎ Broken name at h.first h.batches v w → IsClosed name at h.batches v w ⊎ IsBroken name at h.batches v w
+    cases : Closed by name at h.first h.batches v w ⊎ Broken name at h.first h.batches v w → IsClosed by name at h.batches v w ⊎ IsBroken name at h.batches v w
     cases (inl c) = inl (is_closed name at limit budget keeps h.first h.batches h.opened c)
     cases (inr c) = inr (is_broken name at limit budget keeps h.first h.batches h.opened c)
 
 -- an append's end in words of the file and of a log
-pub tells_end : {s t : SourceView} {v w : DiskView} {k l : SinkView} (name at : List ℕ) (limit budget : ℕ) (keeps : Bool) (status : Status) → AppendEnds name at limit budget keeps s t v w status k l → TellsEnd name at limit s t v w status k l
-tells_end {s} {t} {v} {w} name at limit budget keeps status (inl h) = inl (record {
+pub tells_end : {s t : SourceView} {v w : DiskView} {k l : SinkView} {by : Beginning} (name at : List ℕ) (limit budget : ℕ) (keeps : Bool) (status : Status) → AppendEnds by name at limit budget keeps s t v w status k l → TellsEnd by name at limit s t v w status k l
+tells_end {s = s} {t = t} {v = v} {w = w} {by = by} name at limit budget keeps status (inl h) = inl (record {
   answer = h.answer;
   front = h.front;
   last = h.last;
-  comes = tells_to v w name at limit budget keeps s t h.answer h.front h.last h.comes;
+  comes = tells_to by v w name at limit budget keeps s t h.answer h.front h.last h.comes;
   middle = h.middle;
   gave = h.gave;
   said = h.said;
 })
-tells_end {s} {t} name at limit budget keeps status (inr h) = inr (h.0, tells_cut name at limit budget keeps s t h.1)
+tells_end {s = s} {t = t} {by = by} name at limit budget keeps status (inr h) = inr (h.0, tells_cut name at limit budget keeps s t h.1)

@@ -10,6 +10,7 @@ use Rattle.h5w_session.specs.Refusals.{IsDeepFor, IsFullFor, append_refusal}
 use Rattle.h5w_session.specs.Sessions.{AddsValues, Session, TakesRows, rows_of, stopped_of}
 use Rattle.h5w_session.specs.Stands.{Stands}
 use Rattle.h5w_session.specs.declared.refusal.AppendError.TheVariants as append_errors
+use Rattle.h5w_several_open.specs.declared.beginning.Beginning.{Beginning}
 use Rattle.h5w_input.specs.LinesAhead.{LinesAhead, TakesNumbers}
 use Rattle.h5w_input.specs.Scripts.{number_line_of}
 use Rattle.h5w_text.specs.Streams.{SourceView, SinkView, Gave}
@@ -246,13 +247,12 @@ ending_of batch_errors.OutOfMemory = endings.Refused errors.Memory
 
 -- ---- A file
 
--- The session has just opened the file, which has room for the pending piece and the one that closes it.
+-- The session has just begun over the file, which has room for what is pending and the piece that closes it.
 pub record IsBegun (name : List ℕ) (s : Session) (v : DiskView) : Type 0 where
   pub there : IsThere v name
   pub running : s.stopped ≡ false
-  pub one : length s.pending ≡ 1
   pub waits : s.waits ≡ 0
-  pub room : 2 ≤ v.pieces
+  pub room : length s.pending + 1 ≤ v.pieces
   pub end : s.places.end ≤ v.end name
 
 -- the session was closed, or the disk failed more often than so
@@ -282,34 +282,34 @@ abbrev pub HasSize : DiskView → List ℕ → ℕ → Type 0
 HasSize v name size = IfSome v.told (λ d. Some size ≡ option_map length (file d name))
 
 -- what the look of an open gives
-abbrev pub LooksOpen : List ℕ → List ℕ → (limit budget : ℕ) → DiskView → DiskView → Result Session ErrorLine → Type 0
-LooksOpen name at limit budget v w (Ok s) = IsOpenOver name at limit budget false v s
-LooksOpen name at limit budget v w (Err e) = Unopened name at v w e
+abbrev pub LooksOpen : Beginning → List ℕ → List ℕ → (limit budget : ℕ) → DiskView → DiskView → Result Session ErrorLine → Type 0
+LooksOpen by name at limit budget v w (Ok s) = IsOpenOver by name at limit budget false v s
+LooksOpen by name at limit budget v w (Err e) = Unopened by name at v w e
 
 -- what an open gives
-abbrev pub OpensBy : List ℕ → List ℕ → (limit budget : ℕ) → Bool → DiskView → DiskView → Result Session ErrorLine → Type 0
-OpensBy name at limit budget keeps v w (Ok s) = IsOpenOver name at limit budget keeps v s × IsBegun name s w × LeavesFiles v.told v w
-OpensBy name at limit budget keeps v w (Err e) = Unopened name at v w e
+abbrev pub OpensBy : Beginning → List ℕ → List ℕ → (limit budget : ℕ) → Bool → DiskView → DiskView → Result Session ErrorLine → Type 0
+OpensBy by name at limit budget keeps v w (Ok s) = IsOpenOver by name at limit budget keeps v s × IsBegun name s w × LeavesFiles v.told v w
+OpensBy by name at limit budget keeps v w (Err e) = Unopened by name at v w e
 
 -- ---- The whole append
 
 -- The session that began over the file took its input and was closed, or the disk failed. The text is the last line of all.
-pub record Finishes (name at : List ℕ) (limit budget : ℕ) (keeps : Bool) (x y : SourceView) (v w : DiskView) (k l : SinkView) (text : List ℕ) (result : Result (Unit {0}) Ending) : Type 0 where
+pub record Finishes (by : Beginning) (name at : List ℕ) (limit budget : ℕ) (keeps : Bool) (x y : SourceView) (v w : DiskView) (k l : SinkView) (text : List ℕ) (result : Result (Unit {0}) Ending) : Type 0 where
   pub first : Session
-  pub opened : IsOpenOver name at limit budget keeps v first
+  pub opened : IsOpenOver by name at limit budget keeps v first
   pub rows : ℕ
   pub settles : Settles name rows first x y v w k l result
   pub line : OnOk result (text ≡ closed_text rows)
 
 -- The file was not opened: nothing was read and nothing written.
-pub record BeginsNone (name at : List ℕ) (x y : SourceView) (v w : DiskView) (k l : SinkView) (e : ErrorLine) : Type 0 where
-  pub unopened : Unopened name at v w e
+pub record BeginsNone (by : Beginning) (name at : List ℕ) (x y : SourceView) (v w : DiskView) (k l : SinkView) (e : ErrorLine) : Type 0 where
+  pub unopened : Unopened by name at v w e
   pub unread : y ≡ x
   pub unwritten : l ≡ k
 
 -- either, by the result of it all
-abbrev pub FinishesBy : List ℕ → List ℕ → (limit budget : ℕ) → Bool → SourceView → SourceView → DiskView → DiskView → SinkView → SinkView → List ℕ → Result (Unit {0}) Ending → Type 0
-FinishesBy name at limit budget keeps x y v w k l text (Ok a) = Finishes name at limit budget keeps x y v w k l text (Ok a)
-FinishesBy name at limit budget keeps x y v w k l text (Err (endings.Refused e)) = BeginsNone name at x y v w k l e ⊎ Finishes name at limit budget keeps x y v w k l text (Err (endings.Refused e))
-FinishesBy name at limit budget keeps x y v w k l text (Err endings.Disk) = Finishes name at limit budget keeps x y v w k l text (Err endings.Disk)
-FinishesBy name at limit budget keeps x y v w k l text (Err endings.Sink) = Finishes name at limit budget keeps x y v w k l text (Err endings.Sink)
+abbrev pub FinishesBy : Beginning → List ℕ → List ℕ → (limit budget : ℕ) → Bool → SourceView → SourceView → DiskView → DiskView → SinkView → SinkView → List ℕ → Result (Unit {0}) Ending → Type 0
+FinishesBy by name at limit budget keeps x y v w k l text (Ok a) = Finishes by name at limit budget keeps x y v w k l text (Ok a)
+FinishesBy by name at limit budget keeps x y v w k l text (Err (endings.Refused e)) = BeginsNone by name at x y v w k l e ⊎ Finishes by name at limit budget keeps x y v w k l text (Err (endings.Refused e))
+FinishesBy by name at limit budget keeps x y v w k l text (Err endings.Disk) = Finishes by name at limit budget keeps x y v w k l text (Err endings.Disk)
+FinishesBy by name at limit budget keeps x y v w k l text (Err endings.Sink) = Finishes by name at limit budget keeps x y v w k l text (Err endings.Sink)

@@ -1,5 +1,5 @@
 -- What an append to a file tells, and what it leaves.
-use Rattle.std.specs.Prelude.{◌≡◌, ◌⊎◌, ℕ, ◌+◌, ◌*◌, ◌/◌, ◌%◌, ◌≤◌, Bool, true, List, [], ◌∷◌, ◌++◌, length, Option, Some, None, IfSome, Result, Ok, Err, ℤ, option_map}
+use Rattle.std.specs.Prelude.{◌≡◌, ◌⊎◌, ℕ, ◌+◌, ◌*◌, ◌/◌, ◌≤◌, Bool, true, List, [], ◌∷◌, ◌++◌, length, Option, Some, None, IfSome, Result, Ok, Err, ℤ, option_map}
 use Rattle.h5w_model.specs.Causes.{Rose}
 use Rattle.h5w_model.specs.Datasets.{Described}
 use Rattle.h5w_model.specs.Findings.{Summary, Valid}
@@ -17,7 +17,8 @@ use Rattle.h5w_opening.specs.declared.error.OpenError.TheVariants as opens
 use Rattle.h5w_image.specs.View.{DiskView, IsThere, file}
 use Rattle.h5w_space.specs.declared.Full.{Full}
 use Rattle.h5w_session.specs.Loads.{NoPlace}
-use Rattle.h5w_session_open.specs.OpenAnswers.{HasBegun, IsNotOpened, IsOpenedOver}
+use Rattle.h5w_several_open.specs.Beginnings.{HadFlags, HasBegunBy, IsBegunOver, IsNotBegun, shut_by}
+use Rattle.h5w_several_open.specs.declared.beginning.Beginning.{Beginning}
 use Rattle.h5w_session.specs.Openings.{opened_log}
 use Rattle.h5w_session.specs.Refusals.{IsDeepFor, IsFullFor, append_refusal}
 use Rattle.h5w_session.specs.Sessions.{IsNamed, Session, cleared}
@@ -194,7 +195,7 @@ InputRefuses name first s t b v e = ⊥
 
 -- ---- The file
 
--- the line of a refusal to open a file
+-- the line of a refusal to open a file, or to take it over
 abbrev pub open_line : OpenError → ErrorLine
 open_line (opens.Read e) = errors.Read e
 open_line (opens.Version version) = errors.WriterVersion version
@@ -208,14 +209,14 @@ open_line (opens.Finding kind at) = errors.Finding kind at
 open_line opens.Failed = errors.Disk
 open_line opens.OutOfMemory = errors.Memory
 
--- The session that begins over the file, which is there if the disk tells its files: it is open with both flags of writers pending, and what is retired stays so where
--- that is asked for. Over a valid file it is that of the log to which nothing happened yet.
-pub record IsOpenOver (name at : List ℕ) (limit budget : ℕ) (keeps : Bool) (v : DiskView) (first : Session) : Type 0 where
+-- The session that begins over the file, which is there if the disk tells its files: an opened file has both flags of writers pending, one that is taken over has them.
+-- What is retired stays so where that is asked for. Over a valid file it is that of the log to which nothing happened yet.
+pub record IsOpenOver (by : Beginning) (name at : List ℕ) (limit budget : ℕ) (keeps : Bool) (v : DiskView) (first : Session) : Type 0 where
   pub there : IsThere v name
   pub opened : Session
-  pub begun : HasBegun at limit budget opened
+  pub begun : HasBegunBy by at limit budget opened
   pub is : first ≡ record opened { keeps = keeps }
-  pub exact : (img : List ℕ) → told_bytes v.told name ≡ Some img → IsOpenedOver img (length img) at limit budget opened
+  pub exact : (img : List ℕ) → told_bytes v.told name ≡ Some img → IsBegunOver by img (length img) at limit budget opened
   pub stands : (img : List ℕ) (rows columns : ℕ) (values : List ℤ) (sm : Summary) → told_bytes v.told name ≡ Some img → Valid img at sm → Reads img at rows columns values
       → Stands first (opened_log img columns values)
 
@@ -223,19 +224,19 @@ pub record IsOpenOver (name at : List ℕ) (limit budget : ℕ) (keeps : Bool) (
 abbrev pub IsFree : ErrorLine → Type 0
 IsFree e = (e ≡ errors.Disk) ⊎ (e ≡ errors.Memory)
 
--- why a file is not opened, where it is there
-abbrev pub NotOpened : List ℕ → Option (List ℕ) → ErrorLine → Type 0
-NotOpened at None e = e ≡ errors.Missing
-NotOpened at (Some img) e = (x : OpenError) × (open_line x ≡ e) × IsNotOpened img (length img) at x
+-- why no session begins over a file, where it is there
+abbrev pub NotOpened : Beginning → List ℕ → Option (List ℕ) → ErrorLine → Type 0
+NotOpened by at None e = e ≡ errors.Missing
+NotOpened by at (Some img) e = (x : OpenError) × (open_line x ≡ e) × IsNotBegun by img (length img) at x
 
 -- why a file is not opened: where it is read, it tells of no two looks that differ, of no rows that were seen before, and of no want of memory
 abbrev pub IsOfOpen : ErrorLine → Type 0
 IsOfOpen e = (e ≡ errors.Missing) ⊎ ((x : OpenError) × (open_line x ≡ e) × IsOpenKind x)
 
 -- The file is not opened, and everything stays as it was.
-pub record Unopened (name at : List ℕ) (v w : DiskView) (e : ErrorLine) : Type 0 where
+pub record Unopened (by : Beginning) (name at : List ℕ) (v w : DiskView) (e : ErrorLine) : Type 0 where
   pub disk : LeavesFiles v.told v w
-  pub exact : IfSome v.told (λ d. IsFree e ⊎ NotOpened at (file d name) e)
+  pub exact : IfSome v.told (λ d. IsFree e ⊎ NotOpened by at (file d name) e)
   pub kinds : IsOfOpen e
   pub cause : e ≡ errors.Disk → Rose v.faults w.faults
 
@@ -251,15 +252,16 @@ pub record Holds (name at : List ℕ) (w : DiskView) (columns : ℕ) (values : L
 abbrev pub OfValid : List ℕ → List ℕ → DiskView → (ℕ → List ℤ → Type 0) → Type 0
 OfValid name at v P = (img : List ℕ) (rows columns : ℕ) (values : List ℤ) (sm : Summary) → told_bytes v.told name ≡ Some img → Valid img at sm → Reads img at rows columns values → P columns values
 
--- The superblock is the one that the file had, but for its end: no flag of a writer is set.
+-- The superblock is this one, but for its end.
 pub record IsShut (name : List ℕ) (root : Super) (w : DiskView) : Type 0 where
   pub bytes : List ℕ
   pub told : told_bytes w.told name ≡ Some bytes
   pub end : ℕ
   pub super : super_at (range bytes 0 48) ≡ Ok (record root { end = end })
 
-abbrev pub ShutAgain : List ℕ → List ℕ → DiskView → DiskView → Type 0
-ShutAgain name at v w = (img : List ℕ) (root : Super) → told_bytes v.told name ≡ Some img → super_at (range img 0 48) ≡ Ok root → (root.flags % 2 ≡ 0) × (root.flags / 4 % 2 ≡ 0) × IsShut name root w
+-- no flag of a writer is set: an opened file has the flags that it had, one that was taken over has lost both
+abbrev pub ShutAgain : Beginning → List ℕ → List ℕ → DiskView → DiskView → Type 0
+ShutAgain by name at v w = (img : List ℕ) (root : Super) → told_bytes v.told name ≡ Some img → super_at (range img 0 48) ≡ Ok root → HadFlags by root.flags × IsShut name (shut_by by root) w
 
 -- ---- A sink that fails at a line
 
@@ -278,10 +280,10 @@ pub record StopsAtLine (columns rows : ℕ) (b : Batches) (k l : SinkView) : Typ
 -- ---- The whole append
 
 -- The session that began was closed behind these batches: where the file was valid it is so, with their values behind its own.
-pub record Closed (name at : List ℕ) (first : Session) (b : Batches) (v w : DiskView) : Type 0 where
+pub record Closed (by : Beginning) (name at : List ℕ) (first : Session) (b : Batches) (v w : DiskView) : Type 0 where
   pub closed : ClosedUp name first b v w
   pub holds : OfValid name at v (λ columns values. Holds name at w columns (values ++ values_of b.closed))
-  pub shut : ShutAgain name at v w
+  pub shut : ShutAgain by name at v w
 
 -- The disk failed: no more was put, and where the file was valid it is so, with the values of the batches before.
 pub record Broken (name at : List ℕ) (first : Session) (b : Batches) (v w : DiskView) : Type 0 where
@@ -289,31 +291,31 @@ pub record Broken (name at : List ℕ) (first : Session) (b : Batches) (v w : Di
   pub holds : OfValid name at v (λ columns values. Holds name at w columns (values ++ values_of b.closed))
 
 -- All was appended: each line is of numbers, and the end of the input closes the last batch.
-pub record AppendsWhole (name at : List ℕ) (limit budget : ℕ) (keeps : Bool) (s t : SourceView) (v w : DiskView) (front last : List ℕ) : Type 0 where
+pub record AppendsWhole (by : Beginning) (name at : List ℕ) (limit budget : ℕ) (keeps : Bool) (s t : SourceView) (v w : DiskView) (front last : List ℕ) : Type 0 where
   pub first : Session
-  pub opened : IsOpenOver name at limit budget keeps v first
+  pub opened : IsOpenOver by name at limit budget keeps v first
   pub numbers : List (List ℤ)
   pub read : ReadsAll (columns_of first) s t numbers
-  pub closed : Closed name at first (close_batch (after_lines no_batches numbers)) v w
+  pub closed : Closed by name at first (close_batch (after_lines no_batches numbers)) v w
   pub holds : OfValid name at v (λ columns values. Holds name at w columns (values ++ values_of numbers))
   pub front_is : front ≡ lines_of first (close_batch (after_lines no_batches numbers)).closed
   pub last_is : last ≡ closed_text (rows_after (columns_of first) first.dataset.shape.rows (close_batch (after_lines no_batches numbers)).closed)
 
 -- A refusal, behind which the session was closed: what waits for the end of its batch is dropped.
-pub record AppendsSome (name at : List ℕ) (limit budget : ℕ) (keeps : Bool) (s t : SourceView) (v w : DiskView) (e : ErrorLine) (front last : List ℕ) : Type 0 where
+pub record AppendsSome (by : Beginning) (name at : List ℕ) (limit budget : ℕ) (keeps : Bool) (s t : SourceView) (v w : DiskView) (e : ErrorLine) (front last : List ℕ) : Type 0 where
   pub first : Session
-  pub opened : IsOpenOver name at limit budget keeps v first
+  pub opened : IsOpenOver by name at limit budget keeps v first
   pub batches : Batches
   pub taken : AreTaken (columns_of first) s t batches
   pub refused : InputRefuses name first s t batches v e
-  pub closed : Closed name at first batches v w
+  pub closed : Closed by name at first batches v w
   pub front_is : front ≡ lines_of first batches.closed
   pub last_is : last ≡ error_text e
 
 -- The disk failed behind these batches.
-pub record AppendsUpTo (name at : List ℕ) (limit budget : ℕ) (keeps : Bool) (s t : SourceView) (v w : DiskView) (front last : List ℕ) : Type 0 where
+pub record AppendsUpTo (by : Beginning) (name at : List ℕ) (limit budget : ℕ) (keeps : Bool) (s t : SourceView) (v w : DiskView) (front last : List ℕ) : Type 0 where
   pub first : Session
-  pub opened : IsOpenOver name at limit budget keeps v first
+  pub opened : IsOpenOver by name at limit budget keeps v first
   pub batches : Batches
   pub taken : AreTaken (columns_of first) s t batches
   pub broken : Broken name at first batches v w
@@ -321,29 +323,29 @@ pub record AppendsUpTo (name at : List ℕ) (limit budget : ℕ) (keeps : Bool) 
   pub last_is : last ≡ error_text errors.Disk
 
 -- what is written of a file that is not opened
-pub record AppendsNone (name at : List ℕ) (s t : SourceView) (v w : DiskView) (e : ErrorLine) (front last : List ℕ) : Type 0 where
-  pub unopened : Unopened name at v w e
+pub record AppendsNone (by : Beginning) (name at : List ℕ) (s t : SourceView) (v w : DiskView) (e : ErrorLine) (front last : List ℕ) : Type 0 where
+  pub unopened : Unopened by name at v w e
   pub unread : t ≡ s
   pub front_is : front ≡ []
   pub last_is : last ≡ error_text e
 
 -- An append between two states of a source and a disk, by its answer and by what it writes: a line for each batch, and then a last line.
-abbrev pub AppendsTo : List ℕ → List ℕ → (limit budget : ℕ) → Bool → SourceView → SourceView → DiskView → DiskView → Result (Unit {0}) ErrorLine → List ℕ → List ℕ → Type 0
-AppendsTo name at limit budget keeps s t v w (Ok a) front last = AppendsWhole name at limit budget keeps s t v w front last
-AppendsTo name at limit budget keeps s t v w (Err e) front last =
-    AppendsNone name at s t v w e front last ⊎ (AppendsSome name at limit budget keeps s t v w e front last ⊎ ((e ≡ errors.Disk) × AppendsUpTo name at limit budget keeps s t v w front last))
+abbrev pub AppendsTo : Beginning → List ℕ → List ℕ → (limit budget : ℕ) → Bool → SourceView → SourceView → DiskView → DiskView → Result (Unit {0}) ErrorLine → List ℕ → List ℕ → Type 0
+AppendsTo by name at limit budget keeps s t v w (Ok a) front last = AppendsWhole by name at limit budget keeps s t v w front last
+AppendsTo by name at limit budget keeps s t v w (Err e) front last =
+    AppendsNone by name at s t v w e front last ⊎ (AppendsSome by name at limit budget keeps s t v w e front last ⊎ ((e ≡ errors.Disk) × AppendsUpTo by name at limit budget keeps s t v w front last))
 
 -- The sink failed at the line of a batch: the file has that batch, those before it, and no more. The session was closed behind it, unless
 -- the disk failed at that.
-pub record AppendsCut (name at : List ℕ) (limit budget : ℕ) (keeps : Bool) (s t : SourceView) (v w : DiskView) (k l : SinkView) : Type 0 where
+pub record AppendsCut (by : Beginning) (name at : List ℕ) (limit budget : ℕ) (keeps : Bool) (s t : SourceView) (v w : DiskView) (k l : SinkView) : Type 0 where
   pub first : Session
-  pub opened : IsOpenOver name at limit budget keeps v first
+  pub opened : IsOpenOver by name at limit budget keeps v first
   pub batches : Batches
   pub taken : AreTaken (columns_of first) s t batches
   pub stops : StopsAtLine (columns_of first) first.dataset.shape.rows batches k l
-  pub left : Closed name at first batches v w ⊎ Broken name at first batches v w
+  pub left : Closed by name at first batches v w ⊎ Broken name at first batches v w
 
 -- how an append ends: the lines of all its batches are written before the last line, or the sink fails at one of them
-abbrev pub AppendEnds : List ℕ → List ℕ → (limit budget : ℕ) → Bool → SourceView → SourceView → DiskView → DiskView → Status → SinkView → SinkView → Type 0
-AppendEnds name at limit budget keeps s t v w status k l =
-    EndsBehind {A = Unit {0}} (AppendsTo name at limit budget keeps s t v w) status k l ⊎ ((status ≡ statuses.Sink) × AppendsCut name at limit budget keeps s t v w k l)
+abbrev pub AppendEnds : Beginning → List ℕ → List ℕ → (limit budget : ℕ) → Bool → SourceView → SourceView → DiskView → DiskView → Status → SinkView → SinkView → Type 0
+AppendEnds by name at limit budget keeps s t v w status k l =
+    EndsBehind {A = Unit {0}} (AppendsTo by name at limit budget keeps s t v w) status k l ⊎ ((status ≡ statuses.Sink) × AppendsCut by name at limit budget keeps s t v w k l)

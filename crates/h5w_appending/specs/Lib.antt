@@ -11,6 +11,7 @@ pub use Rattle.h5w_text.specs.Says
 pub use Rattle.h5w_batches.specs.Batches
 pub use Rattle.h5w_batches.specs.Inputs
 pub use Rattle.h5w_batches.specs.Reads
+pub use Rattle.h5w_several_open.specs.Beginnings
 pub mod Puts
 pub mod Creates
 pub mod Taken

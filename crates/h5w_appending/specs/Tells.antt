@@ -7,7 +7,6 @@ use Rattle.h5w_model.specs.Lawful.{first_outside}
 use Rattle.h5w_model.specs.Logs.{Cutting, Log, appended_in, flushed, hist, load, spent}
 use Rattle.h5w_model.specs.Numbers.{range}
 use Rattle.h5w_model.specs.Prefixed.{Held, IsPosition, Prefixed, ReadsNow, Still, image_at}
-use Rattle.h5w_model.specs.Programs.{eval}
 use Rattle.h5w_model.specs.Superblock.{super_at}
 use Rattle.h5w_model.specs.Tables.{Reads, format_limits, limit_of, needed}
 use Rattle.h5w_model.specs.declared.piece.Write.{Write}
@@ -15,12 +14,14 @@ use Rattle.h5w_model.specs.declared.refusal.BlockFault.{BlockFault}
 use Rattle.h5w_model.specs.declared.refusal.ReadError.TheVariants as reads
 use Rattle.h5w_image.specs.View.{DiskView, IsThere, file}
 use Rattle.h5w_space.specs.declared.Full.{Full}
-use Rattle.h5w_opening.specs.Openings.{Opened, looked_for, refused_dataset}
+use Rattle.h5w_opening.specs.Openings.{Opened, refused_dataset}
 use Rattle.h5w_opening.specs.declared.error.OpenError.{OpenError}
 use Rattle.h5w_opening.specs.declared.error.OpenError.TheVariants as opens
 use Rattle.h5w_session.specs.Loads.{end_in}
 use Rattle.h5w_session.specs.Openings.{opened_log}
 use Rattle.h5w_session.specs.Sessions.{with_rows}
+use Rattle.h5w_several_open.specs.Beginnings.{found_by}
+use Rattle.h5w_several_open.specs.declared.beginning.Beginning.{Beginning}
 use Rattle.h5w_text.specs.Errors.{error_text}
 use Rattle.h5w_input.specs.Scripts.{number_line_of}
 use Rattle.h5w_text.specs.Streams.{SourceView, SinkView}
@@ -39,16 +40,16 @@ use Rattle.h5w_appending.specs.Appends.{AtLine, HasValues, Holds, IsFree, IsOfOp
 -- ---- The file
 
 -- the dataset that the root group's link of this name leads to, in a file of these bytes to which rows are appended
-pub record IsDatasetIn (img at : List ℕ) (d : Described) : Type 0 where
+pub record IsDatasetIn (by : Beginning) (img at : List ℕ) (d : Described) : Type 0 where
   pub found : Opened
-  pub is : eval img (looked_for (length img) at) ≡ Ok found
+  pub is : found_by by (length img) at img ≡ Ok found
   pub unrefused : refused_dataset found ≡ None
   pub dataset : found.header.dataset ≡ d
 
 -- The file is there; if the disk tells its bytes, this is their dataset.
-pub record HasDataset (name at : List ℕ) (v : DiskView) (d : Described) : Type 0 where
+pub record HasDataset (by : Beginning) (name at : List ℕ) (v : DiskView) (d : Described) : Type 0 where
   pub there : IsThere v name
-  pub is : (img : List ℕ) → told_bytes v.told name ≡ Some img → IsDatasetIn img at d
+  pub is : (img : List ℕ) → told_bytes v.told name ≡ Some img → IsDatasetIn by img at d
 
 -- if the file was there and valid, by its bytes, its columns and the values that it read as
 abbrev pub OfFile : List ℕ → List ℕ → DiskView → (List ℕ → ℕ → List ℤ → Type 0) → Type 0
@@ -63,19 +64,19 @@ pub data IsBehind (o : Opened) : OpenError → Type 0 where
   of_dataset : (e : OpenError) → refused_dataset o ≡ Some e → IsBehind o e
 
 -- in a file of these bytes: by what is looked at before the index, or behind that
-pub data IsUnopened (img at : List ℕ) (e : OpenError) : Type 0 where
-  of_headers : eval img (looked_for (length img) at) ≡ Err e → IsUnopened img at e
-  of_index : (o : Opened) → eval img (looked_for (length img) at) ≡ Ok o → IsBehind o e → IsUnopened img at e
+pub data IsUnopened (by : Beginning) (img at : List ℕ) (e : OpenError) : Type 0 where
+  of_headers : found_by by (length img) at img ≡ Err e → IsUnopened by img at e
+  of_index : (o : Opened) → found_by by (length img) at img ≡ Ok o → IsBehind o e → IsUnopened by img at e
 
 -- in a file that may be missing
-abbrev pub TellsWhy : List ℕ → Option (List ℕ) → ErrorLine → Type 0
-TellsWhy at None e = e ≡ errors.Missing
-TellsWhy at (Some img) e = (x : OpenError) × (open_line x ≡ e) × IsUnopened img at x
+abbrev pub TellsWhy : Beginning → List ℕ → Option (List ℕ) → ErrorLine → Type 0
+TellsWhy by at None e = e ≡ errors.Missing
+TellsWhy by at (Some img) e = (x : OpenError) × (open_line x ≡ e) × IsUnopened by img at x
 
 -- The file is not opened, nothing is read of the input, and everything stays as it was.
-pub record TellsNone (name at : List ℕ) (s t : SourceView) (v w : DiskView) (e : ErrorLine) (front last : List ℕ) : Type 0 where
+pub record TellsNone (by : Beginning) (name at : List ℕ) (s t : SourceView) (v w : DiskView) (e : ErrorLine) (front last : List ℕ) : Type 0 where
   pub disk : LeavesFiles v.told v w
-  pub exact : IfSome v.told (λ d. IsFree e ⊎ TellsWhy at (file d name) e)
+  pub exact : IfSome v.told (λ d. IsFree e ⊎ TellsWhy by at (file d name) e)
   pub kinds : IsOfOpen e
   pub cause : e ≡ errors.Disk → Rose v.faults w.faults
   pub unread : t ≡ s
@@ -101,15 +102,15 @@ pub record IsLogOver (img at : List ℕ) (columns : ℕ) (values : List ℤ) (ws
 
 -- ---- What is left
 
--- These batches were stored and the file was closed: it has the flags that it had, and if it was valid it is so, with their values behind its
+-- These batches were stored and the file was closed: no flag of a writer is set, and if it was valid it is so, with their values behind its
 -- own. The puts into it are the pieces of such a log. No other file is changed, and the disk did not fail.
-pub record IsClosed (name at : List ℕ) (b : Batches) (v w : DiskView) : Type 0 where
+pub record IsClosed (by : Beginning) (name at : List ℕ) (b : Batches) (v w : DiskView) : Type 0 where
   pub puts : List (Write × ℕ)
   pub disk : LeavesFiles (option_map (after_puts name puts) v.told) v w
   pub calm : w.faults ≡ v.faults
   pub holds : OfFile name at v (λ img columns values. Holds name at w columns (values ++ values_of b.closed))
   pub logs : OfFile name at v (λ img columns values. IsLogOver img at columns values (writes_of puts) b)
-  pub shut : ShutAgain name at v w
+  pub shut : ShutAgain by name at v w
 
 -- The same once the disk failed at a piece: the flags of a writer may be left.
 pub record IsBroken (name at : List ℕ) (b : Batches) (v w : DiskView) : Type 0 where
@@ -176,31 +177,31 @@ IsWhy name at limit d s t b v e = ⊥
 -- ---- The whole append
 
 -- All was appended: each line is of numbers, and the end of the input closes the last batch.
-pub record TellsWhole (name at : List ℕ) (s t : SourceView) (v w : DiskView) (front last : List ℕ) : Type 0 where
+pub record TellsWhole (by : Beginning) (name at : List ℕ) (s t : SourceView) (v w : DiskView) (front last : List ℕ) : Type 0 where
   pub d : Described
-  pub dataset : HasDataset name at v d
+  pub dataset : HasDataset by name at v d
   pub numbers : List (List ℤ)
   pub read : ReadsAll d.shape.cols s t numbers
-  pub closed : IsClosed name at (close_batch (after_lines no_batches numbers)) v w
+  pub closed : IsClosed by name at (close_batch (after_lines no_batches numbers)) v w
   pub holds : OfFile name at v (λ img columns values. Holds name at w columns (values ++ values_of numbers))
   pub front_is : front ≡ rows_lines d.shape.cols d.shape.rows (close_batch (after_lines no_batches numbers)).closed
   pub last_is : last ≡ closed_text (rows_after d.shape.cols d.shape.rows (close_batch (after_lines no_batches numbers)).closed)
 
 -- A refusal, behind which the file was closed: what waits for the end of its batch is dropped.
-pub record TellsSome (name at : List ℕ) (limit : ℕ) (s t : SourceView) (v w : DiskView) (e : ErrorLine) (front last : List ℕ) : Type 0 where
+pub record TellsSome (by : Beginning) (name at : List ℕ) (limit : ℕ) (s t : SourceView) (v w : DiskView) (e : ErrorLine) (front last : List ℕ) : Type 0 where
   pub d : Described
-  pub dataset : HasDataset name at v d
+  pub dataset : HasDataset by name at v d
   pub batches : Batches
   pub taken : AreTaken d.shape.cols s t batches
   pub refused : IsWhy name at limit d s t batches v e
-  pub closed : IsClosed name at batches v w
+  pub closed : IsClosed by name at batches v w
   pub front_is : front ≡ rows_lines d.shape.cols d.shape.rows batches.closed
   pub last_is : last ≡ error_text e
 
 -- The disk failed behind these batches.
-pub record TellsUpTo (name at : List ℕ) (s t : SourceView) (v w : DiskView) (front last : List ℕ) : Type 0 where
+pub record TellsUpTo (by : Beginning) (name at : List ℕ) (s t : SourceView) (v w : DiskView) (front last : List ℕ) : Type 0 where
   pub d : Described
-  pub dataset : HasDataset name at v d
+  pub dataset : HasDataset by name at v d
   pub batches : Batches
   pub taken : AreTaken d.shape.cols s t batches
   pub broken : IsBroken name at batches v w
@@ -208,21 +209,21 @@ pub record TellsUpTo (name at : List ℕ) (s t : SourceView) (v w : DiskView) (f
   pub last_is : last ≡ error_text errors.Disk
 
 -- an append by its answer and by what it writes: a line for each batch, and then a last line
-abbrev pub TellsTo : List ℕ → List ℕ → (limit : ℕ) → SourceView → SourceView → DiskView → DiskView → Result (Unit {0}) ErrorLine → List ℕ → List ℕ → Type 0
-TellsTo name at limit s t v w (Ok a) front last = TellsWhole name at s t v w front last
-TellsTo name at limit s t v w (Err e) front last =
-    TellsNone name at s t v w e front last ⊎ (TellsSome name at limit s t v w e front last ⊎ ((e ≡ errors.Disk) × TellsUpTo name at s t v w front last))
+abbrev pub TellsTo : Beginning → List ℕ → List ℕ → (limit : ℕ) → SourceView → SourceView → DiskView → DiskView → Result (Unit {0}) ErrorLine → List ℕ → List ℕ → Type 0
+TellsTo by name at limit s t v w (Ok a) front last = TellsWhole by name at s t v w front last
+TellsTo by name at limit s t v w (Err e) front last =
+    TellsNone by name at s t v w e front last ⊎ (TellsSome by name at limit s t v w e front last ⊎ ((e ≡ errors.Disk) × TellsUpTo by name at s t v w front last))
 
 -- The sink failed at the line of a batch: the file has that batch, those before it, and no more. It was closed, unless the disk failed at that.
-pub record TellsCut (name at : List ℕ) (s t : SourceView) (v w : DiskView) (k l : SinkView) : Type 0 where
+pub record TellsCut (by : Beginning) (name at : List ℕ) (s t : SourceView) (v w : DiskView) (k l : SinkView) : Type 0 where
   pub d : Described
-  pub dataset : HasDataset name at v d
+  pub dataset : HasDataset by name at v d
   pub batches : Batches
   pub taken : AreTaken d.shape.cols s t batches
   pub stops : StopsAtLine d.shape.cols d.shape.rows batches k l
-  pub left : IsClosed name at batches v w ⊎ IsBroken name at batches v w
+  pub left : IsClosed by name at batches v w ⊎ IsBroken name at batches v w
 
 -- how an append ends: the lines of all its batches are written before the last line, or the sink fails at one of them
-abbrev pub TellsEnd : List ℕ → List ℕ → (limit : ℕ) → SourceView → SourceView → DiskView → DiskView → Status → SinkView → SinkView → Type 0
-TellsEnd name at limit s t v w status k l =
-    EndsBehind {A = Unit {0}} (TellsTo name at limit s t v w) status k l ⊎ ((status ≡ statuses.Sink) × TellsCut name at s t v w k l)
+abbrev pub TellsEnd : Beginning → List ℕ → List ℕ → (limit : ℕ) → SourceView → SourceView → DiskView → DiskView → Status → SinkView → SinkView → Type 0
+TellsEnd by name at limit s t v w status k l =
+    EndsBehind {A = Unit {0}} (TellsTo by name at limit s t v w) status k l ⊎ ((status ≡ statuses.Sink) × TellsCut by name at s t v w k l)

@@ -21,6 +21,7 @@ use h5w_input::{Intake, Lines, Next};
 use h5w_model::ReadError;
 use h5w_session::WriterCore;
 use h5w_session_open::OpenError;
+use h5w_several_open::{Beginning, begin_one};
 use h5w_text::{ErrorLine, Sink, Source, Status, say, tell, write_numbers};
 use std::alloc::Global;
 
@@ -143,7 +144,7 @@ fn take_source<S: Source, K: Sink, D: Disk>(
     )
 }
 
-/// Says in the file that it is written, and appends the lines of the source. `text` gets the last line of all.
+/// Puts what is pending, by which an opened file says that it is written, and appends the lines of the source. `text` gets the last line of all.
 fn take_all<S: Source, K: Sink, D: Disk>(
     alloc: Global,
     session: &mut WriterCore,
@@ -212,7 +213,7 @@ fn settle<D: Disk>(
     }
 }
 
-/// The line of a refusal to open a file.
+/// The line of a refusal to open a file, or to take it over.
 fn open_line(error: OpenError) -> ErrorLine
     ensures { result ≡ open_line error }
 {
@@ -231,9 +232,10 @@ fn open_line(error: OpenError) -> ErrorLine
     }
 }
 
-/// Looks at a file of this size, and opens it.
+/// Looks at a file of this size, and begins a session over it.
 fn look_open<D: Disk>(
     alloc: Global,
+    by: Beginning,
     file: &str,
     size: u64,
     name: &[u8],
@@ -248,10 +250,10 @@ fn look_open<D: Disk>(
     requires high { limit ≤ 2 ^ 40 }
     requires budget { (1024 ≤ budget) × (budget ≤ 2 ^ 30) }
     ensures disk { LeavesFiles (D.view disk.old).told (D.view disk.old) (D.view disk.new) }
-    ensures opens { LooksOpen file.now name.now limit budget (D.view disk.old) (D.view disk.new) result }
+    ensures opens { LooksOpen by file.now name.now limit budget (D.view disk.old) (D.view disk.new) result }
 {
     let mut image = DiskImage { disk, name: file };
-    match h5w_session_open::open(alloc, &mut image, size, name, limit, budget) {
+    match begin_one(alloc, by, &mut image, size, name, limit, budget) {
         Ok(session) => Ok(session),
         Err(error) => Err(open_line(error)),
     }
@@ -271,9 +273,10 @@ fn retire(session: &mut WriterCore, keeps: bool)
     }
 }
 
-/// Opens the file, with room for the pending piece and the one that closes the session.
+/// Begins a session over the file, with room for what is pending and the piece that closes the session.
 fn open<D: Disk>(
     alloc: Global,
+    by: Beginning,
     file: &str,
     name: &[u8],
     limit: u64,
@@ -285,14 +288,14 @@ fn open<D: Disk>(
     requires low { 1024 ≤ limit }
     requires high { limit ≤ 2 ^ 40 }
     requires budget { (1024 ≤ budget) × (budget ≤ 2 ^ 30) }
-    ensures { OpensBy file.now name.now limit budget keeps (D.view disk.old) (D.view disk.new) result }
+    ensures { OpensBy by file.now name.now limit budget keeps (D.view disk.old) (D.view disk.new) result }
 {
     let size = match disk.size(file) {
         Ok(Some(size)) => size,
         Ok(None) => return Err(ErrorLine::Missing),
         Err(_) => return Err(ErrorLine::Disk),
     };
-    let mut session = match look_open(alloc, file, size, name, limit, budget, disk) {
+    let mut session = match look_open(alloc, by, file, size, name, limit, budget, disk) {
         Ok(session) => session,
         Err(error) => return Err(error),
     };
@@ -307,9 +310,10 @@ fn open<D: Disk>(
     Ok(session)
 }
 
-/// Opens the file, appends the lines of the source, and closes the session. `text` gets the last line of all.
+/// Begins over the file, appends the lines of the source, and closes the session. `text` gets the last line of all.
 fn append_all<S: Source, K: Sink, D: Disk>(
     alloc: Global,
+    by: Beginning,
     file: &str,
     name: &[u8],
     limit: u64,
@@ -324,11 +328,11 @@ fn append_all<S: Source, K: Sink, D: Disk>(
     requires low { 1024 ≤ limit }
     requires high { limit ≤ 2 ^ 40 }
     requires budget { (1024 ≤ budget) × (budget ≤ 2 ^ 30) }
-    ensures finishes { FinishesBy file.now name.now limit budget keeps (S.view source.old) (S.view source.new) (D.view disk.old) (D.view disk.new) (K.view sink.old) (K.view sink.new) text.new.items result }
+    ensures finishes { FinishesBy by file.now name.now limit budget keeps (S.view source.old) (S.view source.new) (D.view disk.old) (D.view disk.new) (K.view sink.old) (K.view sink.new) text.new.items result }
     ensures source { SameSource (S.view source.old) (S.view source.new) }
 {
     let faults = disk.faults();
-    let mut session = match open(alloc, file, name, limit, budget, keeps, disk) {
+    let mut session = match open(alloc, by, file, name, limit, budget, keeps, disk) {
         Ok(session) => session,
         Err(error) => return Err(Ending::Refused(error)),
     };
@@ -343,8 +347,12 @@ fn append_all<S: Source, K: Sink, D: Disk>(
 /// becomes visible at once, and how many rows the file has then is written. Of a batch that leaves more than `budget` bytes unwritten some rows
 /// are written before its end, and no reader reaches them. Where `keeps` is set no place that is let go is used again.
 /// After a refusal what was not closed is dropped, and nobody writes the file.
+///
+/// The file is opened, or taken over where another session left it: that begins with the rows that were flushed, and nobody else may write the
+/// file from then on.
 pub fn append<S: Source, K: Sink, D: Disk>(
     alloc: Global,
+    by: Beginning,
     file: &str,
     name: &[u8],
     limit: u64,
@@ -358,13 +366,13 @@ pub fn append<S: Source, K: Sink, D: Disk>(
     requires low { 1024 ≤ limit }
     requires high { limit ≤ 2 ^ 40 }
     requires budget { (1024 ≤ budget) × (budget ≤ 2 ^ 30) }
-    ensures tells { TellsEnd file.now name.now limit (S.view source.old) (S.view source.new) (D.view disk.old) (D.view disk.new) result (K.view sink.old) (K.view sink.new) }
-    ensures appends { AppendEnds file.now name.now limit budget keeps (S.view source.old) (S.view source.new) (D.view disk.old) (D.view disk.new) result (K.view sink.old) (K.view sink.new) }
+    ensures tells { TellsEnd by file.now name.now limit (S.view source.old) (S.view source.new) (D.view disk.old) (D.view disk.new) result (K.view sink.old) (K.view sink.new) }
+    ensures appends { AppendEnds by file.now name.now limit budget keeps (S.view source.old) (S.view source.new) (D.view disk.old) (D.view disk.new) result (K.view sink.old) (K.view sink.new) }
     ensures source { SameSource (S.view source.old) (S.view source.new) }
 {
     let mut text = Vec::new(alloc);
     match append_all(
-        alloc, file, name, limit, budget, keeps, &mut text, source, sink, disk,
+        alloc, by, file, name, limit, budget, keeps, &mut text, source, sink, disk,
     ) {
         Ok(()) => say(&text, Status::Done, sink),
         Err(Ending::Refused(error)) => tell(alloc, &error, sink),

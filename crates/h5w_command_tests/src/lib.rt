@@ -33,6 +33,8 @@ mod steps;
 #[cfg(test)]
 mod stops;
 #[cfg(test)]
+mod takes;
+#[cfg(test)]
 mod trees;
 #[cfg(test)]
 mod types;

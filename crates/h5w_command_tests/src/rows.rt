@@ -292,6 +292,42 @@ look 1 9 => reader 1 rows 2
 read 1 0 2 => reader 1 read
 look 1 9 => reader 1 values 7 -8
 
+# the one dataset is named to be in use
+$ play --type i32le --chunk 2
+use 1 => using 1
+append 1 2 3 => appended 3
+use 1 => using 1
+flush => flushing 6
+write 9 => written 6 pending 0
+open 1 => reader 1 open
+look 1 9 => reader 1 rows 3
+
+# a second dataset is named, and there is one
+$ play --type i32le --chunk 2
+append 1 => appended 1
+use 2 => error line 2
+= 8
+
+# no dataset has the number 0
+$ play --type i32le --chunk 2
+use 0 => error line 1
+= 8
+
+# the number of a dataset begins with no 0
+$ play --type i32le --chunk 2
+use 01 => error line 1
+= 8
+
+# a dataset in use has one number
+$ play --type i32le --chunk 2
+use 1 1 => error line 1
+= 8
+
+# a dataset in use has a number
+$ play --type i32le --chunk 2
+use => error line 1
+= 8
+
 # an empty line
 $ play --type i32le --chunk 2
  => error line 1

@@ -12,6 +12,7 @@ use crate::repacks::REPACK_ROWS;
 use crate::rows::ROWS;
 use crate::several::SEVERAL_ROWS;
 use crate::stops::STOP_ROWS;
+use crate::takes::TAKE_ROWS;
 use crate::trees::TREE_ROWS;
 use crate::types::TYPE_ROWS;
 use h5w_commands::run;
@@ -310,6 +311,7 @@ fn rows_are_answered(rt: HostRuntime) -> Result<(), Fail> {
         REOPENED_ROWS,
         REPACK_ROWS,
         STOP_ROWS,
+        TAKE_ROWS,
         LIVE_ROWS,
     ] {
         check_rows(&rt, rows)?;

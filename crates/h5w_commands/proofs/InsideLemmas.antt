@@ -18,6 +18,7 @@ use Rattle.h5w_running.proofs.EndLemmas.{live_tells}
 use Rattle.h5w_commands.specs.Runs.{Does, DoesInside, EndsWith, Ran, RanInside}
 use Rattle.h5w_commands.specs.Stops.{IsRefused, IsRefusedBy, StopEnds, StopRefuses, StopRefusesBy, StopTells, StopsBy, StopsTo}
 use Rattle.h5w_commands.specs.Writing.{LacksPlace, LacksRoom, Refuses, RefusesBy}
+use Rattle.h5w_commands.specs.Appending.{beginning_of}
 use Rattle.h5w_commands.proofs.AppendLemmas.{append_told}
 
 -- ---- A script of a writer alone
@@ -90,7 +91,7 @@ does_told (Check file names) status s t k l v w does = does
 does_told (Poll file name times attempts values) status s t k l v w does = does
 does_told (Clear file upgrade) status s t k l v w does = does
 does_told (Make count seed) status s t k l v w does = does
-does_told (Append file names limit budget keeps) status s t k l v w does = append_told s t k l v w file names limit budget keeps status does
+does_told (Append file names limit budget keeps takes) status s t k l v w does = append_told (beginning_of takes) s t k l v w file names limit budget keeps status does
 does_told (Live options readers polls attempts mirrors) status s t k l v w does = absurd does
 does_told (Stop options) status s t k l v w does = (stop_tells options status s t does.0, does.1)
 does_told (Repack file to names limit ranges) status s t k l v w does = does
@@ -107,7 +108,7 @@ ran_told (Some (Check file names)) ended s t k l v w ran = ended_told (Check fil
 ran_told (Some (Poll file name times attempts values)) ended s t k l v w ran = ended_told (Poll file name times attempts values) ended s t k l v w ran
 ran_told (Some (Clear file upgrade)) ended s t k l v w ran = ended_told (Clear file upgrade) ended s t k l v w ran
 ran_told (Some (Make count seed)) ended s t k l v w ran = ended_told (Make count seed) ended s t k l v w ran
-ran_told (Some (Append file names limit budget keeps)) ended s t k l v w ran = ended_told (Append file names limit budget keeps) ended s t k l v w ran
+ran_told (Some (Append file names limit budget keeps takes)) ended s t k l v w ran = ended_told (Append file names limit budget keeps takes) ended s t k l v w ran
 ran_told (Some (Live options readers polls attempts mirrors)) ended s t k l v w ran = (live_tells (asked_by options readers polls attempts mirrors) ended ran.0, ran.1)
 ran_told (Some (Stop options)) ended s t k l v w ran = ended_told (Stop options) ended s t k l v w ran
 ran_told (Some (Repack file to names limit ranges)) ended s t k l v w ran = ended_told (Repack file to names limit ranges) ended s t k l v w ran

@@ -1,5 +1,5 @@
 -- How the making of a file in memory ends.
-use Rattle.std.proofs.Common.{◌≡◌, ◌⊎◌, ℕ, ◌∷◌, ◌++◌, List, [], append_assoc, append-nil, Result, Ok, Err, refl, ap, ◌∙◌, inl, inr}
+use Rattle.std.proofs.Common.{◌≡◌, ◌⊎◌, ℕ, ◌∷◌, ◌++◌, List, [], Result, Ok, Err, refl, ap, ◌∙◌, inl, inr}
 use Rattle.std.specs.Prelude.{codes, flat_map}
 use Rattle.h5w_model.specs.Causes.{Rose}
 use Rattle.h5w_text.specs.Errors.{error_text}
@@ -12,18 +12,14 @@ use Rattle.h5w_text.specs.declared.error.ErrorLine.{ErrorLine}
 use Rattle.h5w_text.specs.declared.error.ErrorLine.TheVariants as errors
 use Rattle.h5w_text.specs.declared.status.Status.{Status}
 use Rattle.h5w_text.specs.declared.status.Status.TheVariants as statuses
+use Rattle.h5w_batches.proofs.AnswerLemmas.{joined}
 use Rattle.h5w_files.specs.Ends.{status_by}
 use Rattle.h5w_make.specs.Makes.{IsMade}
 use Rattle.h5w_make.specs.declared.made.Made.{Made}
+use Rattle.h5w_files.proofs.CheckLemmas.{part}
 use Rattle.h5w_commands.specs.Makes.{MakeEnds, MakeEndsWell, MakesTo, made_line}
 
 -- ---- Its line
-
-part : (out mid name : List ℕ) (n : ℕ) → mid ≡ out ++ (name ++ flat_map spaced (n ∷ [])) → mid ≡ out ++ (name ++ spaced n)
-part out mid name n e = e ∙ ap (λ x. out ++ (name ++ x)) (append-nil (spaced n))
-
-joined : (out one two x y : List ℕ) → one ≡ out ++ x → two ≡ one ++ y → two ≡ out ++ (x ++ y)
-joined out one two x y p q = q ∙ ap (λ l. l ++ y) p ∙ append_assoc out x y
 
 -- the four parts of the line
 pub made_parts : (out a b c d : List ℕ) (made : Made) → d ≡ c ++ numbers_text (codes " blocks") (made.blocks ∷ []) → c ≡ b ++ (codes " pieces" ++ flat_map spaced (made.pieces ∷ []))

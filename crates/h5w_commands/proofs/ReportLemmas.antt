@@ -38,7 +38,7 @@ use Rattle.h5w_stop.specs.declared.outcome.Outcome.TheVariants.{Refused}
 use Rattle.h5w_stop.specs.declared.report.Run.{Run}
 use Rattle.h5w_stop.proofs.FoundLemmas.{IsUnborn, none_refused, outcomes_found, runs_found}
 use Rattle.h5w_stop.proofs.LineLemmas.{hist_done}
-use Rattle.h5w_commands.specs.Plays.{HasFirst}
+use Rattle.h5w_playing.specs.Plays.{HasFirst}
 use Rattle.h5w_commands.specs.Stops.{HasWriting, IsRefused, IsTold, IsOutside, IsTooLong, ReadsAll, Reports, StopEnds, StopEndsWell, StopRefuses, StopsTo, SweepsTo, run_text}
 use Rattle.h5w_commands.proofs.WritingLemmas.{both_none}
 use Rattle.h5w_commands.specs.Writing.{Follows, first_error, line_error, writing_line_of, writing_rules}

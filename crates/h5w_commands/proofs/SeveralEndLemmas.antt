@@ -30,12 +30,13 @@ use Rattle.h5w_several_batches.specs.declared.line.SetLine.{SetLine}
 use Rattle.h5w_several_batches.specs.declared.line.SetLine.TheVariants.{Numbers, Use}
 use Rattle.h5w_several_appending.specs.Taken.{SetBatches, after_all, after_said, after_values, close_each, columns_of, end_each, no_sets, none_waits, rows_with}
 use Rattle.h5w_several_appending.specs.Tells.{AtLine, IsWhy, SeveralTells, TellsNone, TellsSome, TellsTo, TellsUpTo, TellsWhy, Unopened, of_line, of_range, of_chunks, of_room, of_depth, of_input, of_source, of_memory}
+use Rattle.h5w_several_open.specs.declared.beginning.Beginning.{Beginning}
 use Rattle.h5w_commands.specs.Appending.{AllSay, HasSeveralInput, IsWithin, SeveralEndsWell}
 use Rattle.h5w_commands.proofs.AppendEndLemmas.{at_file, first_lines, known}
 
 -- memory was wanting before the file was looked at
-pub several_nothing : {s : SourceView} {v : DiskView} {k l : SinkView} (name : List ℕ) (names : List (List ℕ)) (limit : ℕ) (status : Status) → Said (error_text errors.Memory) statuses.Memory status k l → SeveralTells name names limit s s v v status k l
-several_nothing {s} {v} {k} name names limit status said = inl (record {
+pub several_nothing : {s : SourceView} {v : DiskView} {k l : SinkView} {by : Beginning} (name : List ℕ) (names : List (List ℕ)) (limit : ℕ) (status : Status) → Said (error_text errors.Memory) statuses.Memory status k l → SeveralTells by name names limit s s v v status k l
+several_nothing {s = s} {v = v} {k = k} name names limit status said = inl (record {
   answer = Err errors.Memory;
   front = [];
   last = error_text errors.Memory;
@@ -52,19 +53,19 @@ several_nothing {s} {v} {k} name names limit status said = inl (record {
 
 -- ---- Where nothing stands in its way
 
-one_dataset : (img at : List ℕ) (d e : Described) → IsDatasetIn img at d → IsDatasetIn img at e → d ≡ e
+one_dataset : {by : Beginning} (img at : List ℕ) (d e : Described) → IsDatasetIn by img at d → IsDatasetIn by img at e → d ≡ e
 one_dataset img at d e p q =
     let same : p.found ≡ q.found = (let x = sym p.is ∙ q.is in cc) in
     sym p.dataset ∙ ap (λ (o : Opened). o.header.dataset) same ∙ q.dataset
 
 -- the datasets of some names are known by the file's bytes
-same_datasets : (img : List ℕ) (names : List (List ℕ)) (ds es : List Described) → AllPaired (IsDatasetIn img) names ds → AllPaired (IsDatasetIn img) names es → ds ≡ es
-same_datasets img [] [] [] p q = refl
-same_datasets img [] [] (e ∷ es) p q = absurd q
-same_datasets img [] (d ∷ ds) es p q = absurd p
-same_datasets img (name ∷ names) [] es p q = absurd p
-same_datasets img (name ∷ names) (d ∷ ds) [] p q = absurd q
-same_datasets img (name ∷ names) (d ∷ ds) (e ∷ es) p q = ap₂ (λ (x : Described) (xs : List Described). x ∷ xs) (one_dataset img name d e p.0 q.0) (same_datasets img names ds es p.1 q.1)
+same_datasets : (by : Beginning) (img : List ℕ) (names : List (List ℕ)) (ds es : List Described) → AllPaired (IsDatasetIn by img) names ds → AllPaired (IsDatasetIn by img) names es → ds ≡ es
+same_datasets by img [] [] [] p q = refl
+same_datasets by img [] [] (e ∷ es) p q = absurd q
+same_datasets by img [] (d ∷ ds) es p q = absurd p
+same_datasets by img (name ∷ names) [] es p q = absurd p
+same_datasets by img (name ∷ names) (d ∷ ds) [] p q = absurd q
+same_datasets by img (name ∷ names) (d ∷ ds) (e ∷ es) p q = ap₂ (λ (x : Described) (xs : List Described). x ∷ xs) (one_dataset img name d e p.0 q.0) (same_datasets by img names ds es p.1 q.1)
 
 -- which dataset is in use behind some lines
 used_close : (ds : List Described) (b : SetBatches) → (close_each ds b).used ≡ b.used
@@ -95,7 +96,7 @@ line_among ds used (l ∷ ls) (x ∷ xs) line behind all are =
     let same : all.0 ≡ x = (let e = sym all.1 ∙ are.0 in cc) in
     line_among ds (used_after used x) ls xs line behind (subst (λ (y : SetLine). AllSay ds (used_after used y) (ls ++ line ∷ behind)) same all.3) are.1
 
-line_says : {name : List ℕ} {names : List (List ℕ)} {s : SourceView} {v : DiskView} (h : HasSeveralInput name names s v) (b : SetBatches) (n : ℕ) (line : List ℕ) → AtLine h.ds s b n line → Says h.ds b.used line
+line_says : {name : List ℕ} {names : List (List ℕ)} {s : SourceView} {v : DiskView} {by : Beginning} (h : HasSeveralInput by name names s v) (b : SetBatches) (n : ℕ) (line : List ℕ) → AtLine h.ds s b n line → Says h.ds b.used line
 line_says h b n line at =
     let lines = at.before.lines in
     let begins = first_lines (lines ++ line ∷ []) h.input h.bound (subst (λ (o : Option (List ℕ)). IfSome o (AreFirst (lines ++ line ∷ []))) h.given at.before.first) in
@@ -103,7 +104,7 @@ line_says h b n line at =
     let used : b.used ≡ used_by 0 at.said = ap (λ (c : SetBatches). c.used) at.batches ∙ used_all h.ds (no_sets h.ds) at.said in
     subst (λ (u : ℕ). Says h.ds u line) (sym used) (line_among h.ds 0 lines at.said line begins.0 all at.before.are)
 
-why_ends : {name : List ℕ} {names : List (List ℕ)} {s : SourceView} {v : DiskView} (limit : ℕ) (t : SourceView) (b : SetBatches) (h : HasSeveralInput name names s v) → (Rose s.faults t.faults → ⊥) → (e : ErrorLine)
+why_ends : {name : List ℕ} {names : List (List ℕ)} {s : SourceView} {v : DiskView} {by : Beginning} (limit : ℕ) (t : SourceView) (b : SetBatches) (h : HasSeveralInput by name names s v) → (Rose s.faults t.faults → ⊥) → (e : ErrorLine)
     → IsWhy name names limit h.ds s t b v e → (status_of e ≡ statuses.Limit) ⊎ (status_of e ≡ statuses.Memory)
 why_ends limit t b h source _ (of_line n line at none) = let says = line_says h b n line at in let spelled = says.1 in absurd (cc)
 why_ends limit t b h source _ (of_range n i x values d at is outside) =
@@ -119,36 +120,36 @@ why_ends limit t b h source _ (of_input said much is) =
 why_ends limit t b h source _ (of_source said rose words is) = absurd (source rose)
 why_ends limit t b h source _ of_memory = inr refl
 
-unopened_so : {name : List ℕ} {names : List (List ℕ)} {s : SourceView} {v w : DiskView} (h : HasSeveralInput name names s v) → (Rose v.faults w.faults → ⊥) → (e : ErrorLine) → Unopened name names v w e → IsFree e ⊎ TellsWhy names (Some h.bytes) e
+unopened_so : {name : List ℕ} {names : List (List ℕ)} {s : SourceView} {v w : DiskView} {by : Beginning} (h : HasSeveralInput by name names s v) → (Rose v.faults w.faults → ⊥) → (e : ErrorLine) → Unopened by name names v w e → IsFree e ⊎ TellsWhy by names (Some h.bytes) e
     → status_of e ≡ statuses.Memory
 unopened_so h disk e u (inl (inl broke)) = absurd (disk (u.cause broke))
 unopened_so h disk e u (inl (inr wanting)) = ap status_of wanting
 unopened_so h disk e u (inr refused) = absurd (h.unrefused refused.0 refused.2)
 
-error_ends : {name : List ℕ} {names : List (List ℕ)} {s : SourceView} {v : DiskView} (limit : ℕ) (t : SourceView) (w : DiskView) (front last : List ℕ) (h : HasSeveralInput name names s v) → (Rose s.faults t.faults → ⊥) → (Rose v.faults w.faults → ⊥) → (e : ErrorLine)
-    → TellsNone name names s t v w e front last ⊎ (TellsSome name names limit s t v w e front last ⊎ ((e ≡ errors.Disk) × TellsUpTo name names s t v w front last))
+error_ends : {name : List ℕ} {names : List (List ℕ)} {s : SourceView} {v : DiskView} {by : Beginning} (limit : ℕ) (t : SourceView) (w : DiskView) (front last : List ℕ) (h : HasSeveralInput by name names s v) → (Rose s.faults t.faults → ⊥) → (Rose v.faults w.faults → ⊥) → (e : ErrorLine)
+    → TellsNone by name names s t v w e front last ⊎ (TellsSome by name names limit s t v w e front last ⊎ ((e ≡ errors.Disk) × TellsUpTo by name names s t v w front last))
     → (status_of e ≡ statuses.Limit) ⊎ (status_of e ≡ statuses.Memory)
-error_ends {name} {names} {s} {v} limit t w front last h source disk e (inl none) =
-    inr (unopened_so h disk e none.unopened (at_file v.told name h.bytes (λ (o : Option (List ℕ)). IsFree e ⊎ TellsWhy names o e) h.told none.unopened.exact))
-error_ends {name} {names} {s} {v} limit t w front last h source disk e (inr (inl some)) =
-    let same = same_datasets h.bytes names some.ds h.ds (some.datasets.are h.bytes h.told) h.are in
+error_ends {name = name} {names = names} {s = s} {v = v} {by = by} limit t w front last h source disk e (inl none) =
+    inr (unopened_so h disk e none.unopened (at_file v.told name h.bytes (λ (o : Option (List ℕ)). IsFree e ⊎ TellsWhy by names o e) h.told none.unopened.exact))
+error_ends {name = name} {names = names} {s = s} {v = v} {by = by} limit t w front last h source disk e (inr (inl some)) =
+    let same = same_datasets by h.bytes names some.ds h.ds (some.datasets.are h.bytes h.told) h.are in
     why_ends limit t some.batches h source e (subst (λ (ds : List Described). IsWhy name names limit ds s t some.batches v e) same some.refused)
 error_ends limit t w front last h source disk e (inr (inr broke)) = absurd (disk broke.1.broken.rose)
 
-tells_ends : {name : List ℕ} {names : List (List ℕ)} {s : SourceView} {v : DiskView} (limit : ℕ) (t : SourceView) (w : DiskView) (front last : List ℕ) → HasSeveralInput name names s v → (Rose s.faults t.faults → ⊥) → (Rose v.faults w.faults → ⊥) → (answer : Result (Unit {0}) ErrorLine)
-    → TellsTo name names limit s t v w answer front last → (status_by answer ≡ statuses.Done) ⊎ ((status_by answer ≡ statuses.Limit) ⊎ (status_by answer ≡ statuses.Memory))
+tells_ends : {name : List ℕ} {names : List (List ℕ)} {s : SourceView} {v : DiskView} {by : Beginning} (limit : ℕ) (t : SourceView) (w : DiskView) (front last : List ℕ) → HasSeveralInput by name names s v → (Rose s.faults t.faults → ⊥) → (Rose v.faults w.faults → ⊥) → (answer : Result (Unit {0}) ErrorLine)
+    → TellsTo by name names limit s t v w answer front last → (status_by answer ≡ statuses.Done) ⊎ ((status_by answer ≡ statuses.Limit) ⊎ (status_by answer ≡ statuses.Memory))
 tells_ends limit t w front last h source disk (Ok a) p = inl refl
 tells_ends limit t w front last h source disk (Err e) p = inr (error_ends limit t w front last h source disk e p)
 
-pub several_whole : {s t : SourceView} {k l : SinkView} {v w : DiskView} (name : List ℕ) (names : List (List ℕ)) (limit : ℕ) (status : Status) → SeveralTells name names limit s t v w status k l → SeveralEndsWell name names status s t k l v w
-several_whole {s} {t} {k} {l} {v} {w} name names limit status e = λ h source sink disk. go h source sink disk e
+pub several_whole : {s t : SourceView} {k l : SinkView} {v w : DiskView} {by : Beginning} (name : List ℕ) (names : List (List ℕ)) (limit : ℕ) (status : Status) → SeveralTells by name names limit s t v w status k l → SeveralEndsWell by name names status s t k l v w
+several_whole {s = s} {t = t} {k = k} {l = l} {v = v} {w = w} {by = by} name names limit status e = λ h source sink disk. go h source sink disk e
   where
-    spoken : HasSeveralInput name names s v → (Rose s.faults t.faults → ⊥) → (Rose k.faults l.faults → ⊥) → (Rose v.faults w.faults → ⊥) → (p : EndsBehind {A = Unit {0}} (TellsTo name names limit s t v w) status k l)
+    spoken : HasSeveralInput by name names s v → (Rose s.faults t.faults → ⊥) → (Rose k.faults l.faults → ⊥) → (Rose v.faults w.faults → ⊥) → (p : EndsBehind {A = Unit {0}} (TellsTo by name names limit s t v w) status k l)
         → Said p.last (status_by p.answer) status p.middle l → (status ≡ statuses.Done) ⊎ ((status ≡ statuses.Limit) ⊎ (status ≡ statuses.Memory))
     spoken h source sink disk p (failed is rose some) = absurd (sink (rose_before k.faults p.middle.faults l.faults p.gave.faults rose))
     spoken h source sink disk p (whole is gave) = known status (status_by p.answer) is (tells_ends limit t w p.front p.last h source disk p.answer p.comes)
 
-    go : HasSeveralInput name names s v → (Rose s.faults t.faults → ⊥) → (Rose k.faults l.faults → ⊥) → (Rose v.faults w.faults → ⊥) → SeveralTells name names limit s t v w status k l
+    go : HasSeveralInput by name names s v → (Rose s.faults t.faults → ⊥) → (Rose k.faults l.faults → ⊥) → (Rose v.faults w.faults → ⊥) → SeveralTells by name names limit s t v w status k l
         → (status ≡ statuses.Done) ⊎ ((status ≡ statuses.Limit) ⊎ (status ≡ statuses.Memory))
     go h source sink disk (inl p) = spoken h source sink disk p p.said
     go h source sink disk (inr cut) = let stops = cut.1.stops in absurd (sink (rose_before k.faults stops.middle.faults l.faults stops.gave.faults stops.rose))

@@ -9,7 +9,7 @@ use Rattle.h5w_model.specs.declared.reply.Reply.{Reply}
 use Rattle.h5w_core.specs.Worlds.{HaveOneLog, StandsFor, WorldView, logged, rules_of}
 use Rattle.h5w_headline.specs.Showing.{showing}
 use Rattle.h5w_commands.specs.Writing.{ShowsAll}
-use Rattle.h5w_commands.proofs.ShowLemmas.{Shown, more_shown, none_shown}
+use Rattle.h5w_playing.proofs.ShowLemmas.{Shown, more_shown, none_shown}
 
 showing_push : (ws : List Write) (w : Write) (es : List Happening) → showing (ws ++ w ∷ []) es ≡ shows w ∷ showing ws es
 showing_push [] w es = refl

@@ -22,14 +22,14 @@ use Rattle.h5w_options.specs.declared.options.Options.{Options}
 use Rattle.h5w_core.specs.Worlds.{WorldView, rules_of}
 use Rattle.h5w_stop.specs.Sweeps.{no_rows, rest_of}
 use Rattle.h5w_batches.specs.Inputs.{AreAll, SameSource, input_limit, outside}
-use Rattle.h5w_commands.specs.Answers.{play_line_of}
-use Rattle.h5w_commands.specs.Plays.{HasFirst}
+use Rattle.h5w_playing.specs.Answers.{play_line_of}
+use Rattle.h5w_playing.specs.Plays.{HasFirst}
 use Rattle.h5w_commands.specs.Stops.{AreDone, IsRefused, ReadsAll, RefusesLine, StopRefuses, TakesLine, error_line}
 use Rattle.h5w_commands.specs.Writing.{Follows, Refuses, line_error, writing, writing_line_of, writing_rules}
-use Rattle.h5w_commands.proofs.LineLemmas.{long_is_outside}
-use Rattle.h5w_batches.proofs.LineLemmas.{none_behind}
+use Rattle.h5w_playing.proofs.LineLemmas.{long_is_outside}
+use Rattle.h5w_batches.proofs.LineLemmas.{none_behind, starts}
 use Rattle.h5w_batches.proofs.InputLemmas.{rose_before}
-use Rattle.h5w_commands.proofs.PlayLemmas.{all_cases, all_left, all_of_left, all_taken, more_first, none_more, one_whole, starts, too_long}
+use Rattle.h5w_playing.proofs.PlayLemmas.{all_cases, all_left, all_of_left, all_taken, more_first, none_more, one_whole, too_long}
 
 -- ---- One line
 
@@ -263,17 +263,6 @@ pub last_refused : {v u : LinesAhead} {old : WorldView} {number : ℕ} {A : Type
     → IfErr r (StopRefuses o (outside v) t)
 last_refused o t j line (Ok a) room x given refused = tt
 last_refused o t j line (Err e) room x given refused = ended_at_line o t given.0 e x.goes room given.2 (refused given.0 given.1)
-
--- ---- The source
-
-pub stays_itself : (v : LinesAhead) → Stays v v
-stays_itself v = record { limit = refl; faults = omega arith; through = refl }
-
-pub stays_twice : {v u w : LinesAhead} → Stays v u → Stays u w → Stays v w
-stays_twice a b = record { limit = b.limit ∙ a.limit; faults = omega (arith, a.faults, b.faults); through = b.through ∙ a.through }
-
-pub source_stays : (s t : SourceView) (i j : IntakeView) → Stays (lines_ahead s i) (lines_ahead t j) → SameSource s t
-source_stays s t i j a = record { faults = a.faults; through = a.through }
 
 -- ---- The lines of a source
 

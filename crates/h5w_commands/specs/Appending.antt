@@ -1,15 +1,13 @@
 -- What an append to a file leaves, by how many datasets it names, and when it ends well.
-use Rattle.std.specs.Prelude.{◌≡◌, ◌⊎◌, ℕ, ◌≤◌, Bool, List, [], ◌∷◌, length, slice_get, Option, Some, None, Ok, ℤ}
+use Rattle.std.specs.Prelude.{◌≡◌, ◌⊎◌, ℕ, ◌≤◌, Bool, true, false, List, [], ◌∷◌, length, slice_get, Option, Some, None, Ok, ℤ}
 use Rattle.std.specs.List.{All}
 use Rattle.h5w_model.specs.Causes.{Rose}
 use Rattle.h5w_model.specs.Datasets.{Described}
 use Rattle.h5w_model.specs.Lawful.{first_outside}
-use Rattle.h5w_model.specs.Programs.{eval}
 use Rattle.h5w_model.specs.Relations.{AllPaired}
 use Rattle.h5w_image.specs.View.{DiskView}
-use Rattle.h5w_opening.specs.Openings.{Opened, looked_for}
+use Rattle.h5w_opening.specs.Openings.{Opened}
 use Rattle.h5w_opening.specs.declared.error.OpenError.{OpenError}
-use Rattle.h5w_session_open.specs.OpenAnswers.{IsNotOpened}
 use Rattle.h5w_input.specs.Lines.{lines_of}
 use Rattle.h5w_input.specs.Scripts.{number_line_of}
 use Rattle.h5w_text.specs.Streams.{SourceView, SinkView}
@@ -19,25 +17,32 @@ use Rattle.h5w_files.specs.Images.{told_bytes}
 use Rattle.h5w_batches.specs.Inputs.{input_limit}
 use Rattle.h5w_appending.specs.Appends.{AppendEnds}
 use Rattle.h5w_appending.specs.Tells.{IsDatasetIn, TellsEnd}
-use Rattle.h5w_several_open.specs.Answers.{IsNotOpenedBy}
+use Rattle.h5w_several_open.specs.Beginnings.{IsNoneBegun, IsNotBegun, found_by}
+use Rattle.h5w_several_open.specs.declared.beginning.Beginning.{Beginning}
+use Rattle.h5w_several_open.specs.declared.beginning.Beginning.TheVariants as beginnings
 use Rattle.h5w_several_batches.specs.SetLines.{set_line_of, used_after}
 use Rattle.h5w_several_batches.specs.declared.line.SetLine.{SetLine}
 use Rattle.h5w_several_batches.specs.declared.line.SetLine.TheVariants.{Numbers, Use}
 use Rattle.h5w_several_appending.specs.Taken.{columns_of}
 use Rattle.h5w_several_appending.specs.Tells.{SeveralTells}
 
+-- how a session begins: it takes the file over where that is asked for
+abbrev pub beginning_of : Bool → Beginning
+beginning_of true = beginnings.TakenOver
+beginning_of false = beginnings.Opened
+
 -- a line of numbers has rows of a dataset, and each value is in the range of its type
 abbrev pub HasRows : Described → List ℕ → Type 0
 HasRows d line = (values : List ℤ) × (number_line_of d.shape.cols line ≡ Some values) × (first_outside d.int_type 0 values ≡ None)
 
--- A disk tells a file of this name, which nothing refuses to open, and a source tells an input, which is not too long; each of its
+-- A disk tells a file of this name, which nothing refuses, and a source tells an input, which is not too long; each of its
 -- lines has rows of the file's dataset.
-pub record HasInput (name at : List ℕ) (s : SourceView) (v : DiskView) : Type 0 where
+pub record HasInput (by : Beginning) (name at : List ℕ) (s : SourceView) (v : DiskView) : Type 0 where
   pub bytes : List ℕ
   pub told : told_bytes v.told name ≡ Some bytes
-  pub unrefused : (e : OpenError) → IsNotOpened bytes (length bytes) at e → ⊥
+  pub unrefused : (e : OpenError) → IsNotBegun by bytes (length bytes) at e → ⊥
   pub found : Opened
-  pub is : eval bytes (looked_for (length bytes) at) ≡ Ok found
+  pub is : found_by by (length bytes) at bytes ≡ Ok found
   pub input : List ℕ
   pub given : s.left ≡ Some input
   pub bound : length input ≤ input_limit
@@ -45,9 +50,9 @@ pub record HasInput (name at : List ℕ) (s : SourceView) (v : DiskView) : Type 
 
 -- An append in which neither disk nor source nor sink failed ends when all is done, or where there is no place for a chunk or a block,
 -- or for want of memory.
-abbrev pub AppendEndsWell : List ℕ → List ℕ → Status → SourceView → SourceView → SinkView → SinkView → DiskView → DiskView → Type 0
-AppendEndsWell name at status s t k l v w =
-    HasInput name at s v → (Rose s.faults t.faults → ⊥) → (Rose k.faults l.faults → ⊥) → (Rose v.faults w.faults → ⊥) → (status ≡ statuses.Done) ⊎ ((status ≡ statuses.Limit) ⊎ (status ≡ statuses.Memory))
+abbrev pub AppendEndsWell : Beginning → List ℕ → List ℕ → Status → SourceView → SourceView → SinkView → SinkView → DiskView → DiskView → Type 0
+AppendEndsWell by name at status s t k l v w =
+    HasInput by name at s v → (Rose s.faults t.faults → ⊥) → (Rose k.faults l.faults → ⊥) → (Rose v.faults w.faults → ⊥) → (status ≡ statuses.Done) ⊎ ((status ≡ statuses.Limit) ⊎ (status ≡ statuses.Memory))
 
 -- ---- Several datasets
 
@@ -62,23 +67,23 @@ abbrev pub AllSay : List Described → ℕ → List (List ℕ) → Type 0
 AllSay ds used [] = Unit {0}
 AllSay ds used (line ∷ lines) = (said : SetLine) × (set_line_of (columns_of ds) used line ≡ Some said) × IsWithin ds used said × AllSay ds (used_after used said) lines
 
--- A disk tells a file of this name, which nothing refuses to open by all of these names, and a source tells an input, which is not too long; its
+-- A disk tells a file of this name, which nothing refuses by all of these names, and a source tells an input, which is not too long; its
 -- lines say something of the file's datasets, of which the first is in use at first.
-pub record HasSeveralInput (name : List ℕ) (names : List (List ℕ)) (s : SourceView) (v : DiskView) : Type 0 where
+pub record HasSeveralInput (by : Beginning) (name : List ℕ) (names : List (List ℕ)) (s : SourceView) (v : DiskView) : Type 0 where
   pub bytes : List ℕ
   pub told : told_bytes v.told name ≡ Some bytes
-  pub unrefused : (e : OpenError) → IsNotOpenedBy bytes (length bytes) names e → ⊥
+  pub unrefused : (e : OpenError) → IsNoneBegun by bytes (length bytes) names e → ⊥
   pub ds : List Described
-  pub are : AllPaired (IsDatasetIn bytes) names ds
+  pub are : AllPaired (IsDatasetIn by bytes) names ds
   pub input : List ℕ
   pub given : s.left ≡ Some input
   pub bound : length input ≤ input_limit
   pub lines : AllSay ds 0 (lines_of input)
 
 -- the same of an append to several datasets
-abbrev pub SeveralEndsWell : List ℕ → List (List ℕ) → Status → SourceView → SourceView → SinkView → SinkView → DiskView → DiskView → Type 0
-SeveralEndsWell name names status s t k l v w =
-    HasSeveralInput name names s v → (Rose s.faults t.faults → ⊥) → (Rose k.faults l.faults → ⊥) → (Rose v.faults w.faults → ⊥) → (status ≡ statuses.Done) ⊎ ((status ≡ statuses.Limit) ⊎ (status ≡ statuses.Memory))
+abbrev pub SeveralEndsWell : Beginning → List ℕ → List (List ℕ) → Status → SourceView → SourceView → SinkView → SinkView → DiskView → DiskView → Type 0
+SeveralEndsWell by name names status s t k l v w =
+    HasSeveralInput by name names s v → (Rose s.faults t.faults → ⊥) → (Rose k.faults l.faults → ⊥) → (Rose v.faults w.faults → ⊥) → (status ≡ statuses.Done) ⊎ ((status ≡ statuses.Limit) ⊎ (status ≡ statuses.Memory))
 
 -- ---- By how many names there are
 
@@ -88,16 +93,16 @@ only_of (name ∷ []) = Some name
 only_of names = None
 
 -- what an append leaves: to the dataset of one name, or to those of several
-abbrev pub AppendTells : List ℕ → List (List ℕ) → (limit : ℕ) → SourceView → SourceView → DiskView → DiskView → Status → SinkView → SinkView → Type 0
-AppendTells file (name ∷ []) limit s t v w status k l = TellsEnd file name limit s t v w status k l
-AppendTells file names limit s t v w status k l = SeveralTells file names limit s t v w status k l
+abbrev pub AppendTells : Beginning → List ℕ → List (List ℕ) → (limit : ℕ) → SourceView → SourceView → DiskView → DiskView → Status → SinkView → SinkView → Type 0
+AppendTells by file (name ∷ []) limit s t v w status k l = TellsEnd by file name limit s t v w status k l
+AppendTells by file names limit s t v w status k l = SeveralTells by file names limit s t v w status k l
 
 -- the same, told of one name by the state of the session, too
-abbrev pub AppendTellsInside : List ℕ → List (List ℕ) → (limit budget : ℕ) → Bool → SourceView → SourceView → DiskView → DiskView → Status → SinkView → SinkView → Type 0
-AppendTellsInside file (name ∷ []) limit budget keeps s t v w status k l = AppendEnds file name limit budget keeps s t v w status k l
-AppendTellsInside file names limit budget keeps s t v w status k l = SeveralTells file names limit s t v w status k l
+abbrev pub AppendTellsInside : Beginning → List ℕ → List (List ℕ) → (limit budget : ℕ) → Bool → SourceView → SourceView → DiskView → DiskView → Status → SinkView → SinkView → Type 0
+AppendTellsInside by file (name ∷ []) limit budget keeps s t v w status k l = AppendEnds by file name limit budget keeps s t v w status k l
+AppendTellsInside by file names limit budget keeps s t v w status k l = SeveralTells by file names limit s t v w status k l
 
 -- that it ends well
-abbrev pub AppendTellsWhole : List ℕ → List (List ℕ) → Status → SourceView → SourceView → SinkView → SinkView → DiskView → DiskView → Type 0
-AppendTellsWhole file (name ∷ []) status s t k l v w = AppendEndsWell file name status s t k l v w
-AppendTellsWhole file names status s t k l v w = SeveralEndsWell file names status s t k l v w
+abbrev pub AppendTellsWhole : Beginning → List ℕ → List (List ℕ) → Status → SourceView → SourceView → SinkView → SinkView → DiskView → DiskView → Type 0
+AppendTellsWhole by file (name ∷ []) status s t k l v w = AppendEndsWell by file name status s t k l v w
+AppendTellsWhole by file names status s t k l v w = SeveralEndsWell by file names status s t k l v w

@@ -14,10 +14,9 @@ pub use Rattle.h5w_appending.specs.Appends
 pub use Rattle.h5w_words.specs.Commands
 pub use Rattle.h5w_words.specs.Limits
 pub use Rattle.h5w_core.specs.Worlds
+pub use Rattle.h5w_playing.specs.Plays
+pub use Rattle.h5w_playing.specs.Starts
 pub mod Edges
-pub mod Answers
-pub mod Plays
-pub mod Endings
 pub mod Makes
 pub mod Writing
 pub mod Stops

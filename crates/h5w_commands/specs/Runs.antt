@@ -1,5 +1,5 @@
 -- What a run of the program leaves, by its words.
-use Rattle.std.specs.Prelude.{◌≡◌, Option, Some, None}
+use Rattle.std.specs.Prelude.{◌≡◌, [], ◌∷◌, Option, Some, None}
 use Rattle.h5w_image.specs.View.{DiskView}
 use Rattle.h5w_reader.specs.Readers.{reader_rules}
 use Rattle.h5w_text.specs.Streams.{SourceView, SinkView}
@@ -16,17 +16,16 @@ use Rattle.h5w_files.specs.Checks.{CheckEnds, check_of}
 use Rattle.h5w_files.specs.Polls.{PollEnds, poll_of}
 use Rattle.h5w_files.specs.Clears.{ClearEnds, clears_of}
 use Rattle.h5w_repacking.specs.Repacks.{RepackEnds, RepackEndsWell}
-use Rattle.h5w_core.specs.Worlds.{rules_for}
 use Rattle.h5w_words.specs.declared.job.Job.{Job}
 use Rattle.h5w_words.specs.declared.job.Job.TheVariants.{Play, New, Check, Poll, Clear, Make, Append, Live, Stop, Repack}
 use Rattle.h5w_running.specs.Runs.{asked_by}
 use Rattle.h5w_running.specs.Ends.{LiveEnds, LiveEndsWell, LiveTells}
 use Rattle.h5w_running.specs.declared.ended.Ended.{Ended}
 use Rattle.h5w_running.specs.declared.ended.Ended.TheVariants as ends
-use Rattle.h5w_commands.specs.Plays.{Completes, Plays}
+use Rattle.h5w_playing.specs.Starts.{PlayEnds, PlayEndsWell}
 use Rattle.h5w_commands.specs.Makes.{MakeEnds, MakeEndsWell}
 use Rattle.h5w_commands.specs.Stops.{StopEnds, StopEndsWell, StopTells}
-use Rattle.h5w_commands.specs.Appending.{AppendTells, AppendTellsInside, AppendTellsWhole}
+use Rattle.h5w_commands.specs.Appending.{AppendTells, AppendTellsInside, AppendTellsWhole, beginning_of}
 
 -- the job waits for nobody
 abbrev pub IsPlain : Job → Type 0
@@ -36,26 +35,26 @@ IsPlain job = Unit {0}
 -- What a job that waits for nobody leaves of source, sink and disk. A script leaves the disk as it is, be it of readers
 -- or of a writer alone; of the commands on files an append alone reads, and the making of a file in memory leaves both.
 abbrev pub Does : Job → Status → SourceView → SourceView → SinkView → SinkView → DiskView → DiskView → Type 0
-Does (Play options attempts) status s t k l v w = Plays (rules_for options attempts) status s t k l × (w ≡ v)
+Does (Play options attempts) status s t k l v w = PlayEnds (options.name ∷ []) options attempts status s t k l × (w ≡ v)
 Does (New file names options) status s t k l v w = (t ≡ s) × CreateEnds file (files_of names options) v w status k l
 Does (Check file names) status s t k l v w = (t ≡ s) × CheckEnds file names v w status k l
 Does (Poll file name times attempts values) status s t k l v w = (t ≡ s) × PollEnds file name times attempts values v w status k l
 Does (Clear file upgrade) status s t k l v w = (t ≡ s) × ClearEnds file upgrade v w status k l
 Does (Make count seed) status s t k l v w = (t ≡ s) × (w ≡ v) × MakeEnds count seed status k l
-Does (Append file names limit budget keeps) status s t k l v w = AppendTells file names limit s t v w status k l
+Does (Append file names limit budget keeps takes) status s t k l v w = AppendTells (beginning_of takes) file names limit s t v w status k l
 Does (Live options readers polls attempts mirrors) status s t k l v w = ⊥
 Does (Stop options) status s t k l v w = StopTells options status s t k l × (w ≡ v)
 Does (Repack file to names limit ranges) status s t k l v w = (t ≡ s) × RepackEnds file to names limit ranges v w status k l
 
 -- The same, with what an append and a script of a writer alone leave told by the state of their session, too.
 abbrev pub DoesInside : Job → Status → SourceView → SourceView → SinkView → SinkView → DiskView → DiskView → Type 0
-DoesInside (Play options attempts) status s t k l v w = Plays (rules_for options attempts) status s t k l × (w ≡ v)
+DoesInside (Play options attempts) status s t k l v w = PlayEnds (options.name ∷ []) options attempts status s t k l × (w ≡ v)
 DoesInside (New file names options) status s t k l v w = (t ≡ s) × CreateEnds file (files_of names options) v w status k l
 DoesInside (Check file names) status s t k l v w = (t ≡ s) × CheckEnds file names v w status k l
 DoesInside (Poll file name times attempts values) status s t k l v w = (t ≡ s) × PollEnds file name times attempts values v w status k l
 DoesInside (Clear file upgrade) status s t k l v w = (t ≡ s) × ClearEnds file upgrade v w status k l
 DoesInside (Make count seed) status s t k l v w = (t ≡ s) × (w ≡ v) × MakeEnds count seed status k l
-DoesInside (Append file names limit budget keeps) status s t k l v w = AppendTellsInside file names limit budget keeps s t v w status k l
+DoesInside (Append file names limit budget keeps takes) status s t k l v w = AppendTellsInside (beginning_of takes) file names limit budget keeps s t v w status k l
 DoesInside (Live options readers polls attempts mirrors) status s t k l v w = ⊥
 DoesInside (Stop options) status s t k l v w = StopEnds options status s t k l × (w ≡ v)
 DoesInside (Repack file to names limit ranges) status s t k l v w = (t ≡ s) × RepackEnds file to names limit ranges v w status k l
@@ -85,13 +84,13 @@ RanInside (Some job) ended s t k l v w = EndsWith (λ status. DoesInside job sta
 
 -- a job is done, or memory is wanted, where nothing else stands in its way; the file of an append may have no place, nor that of a repack
 abbrev pub DoesWhole : Job → Status → SourceView → SourceView → SinkView → SinkView → DiskView → DiskView → Type 0
-DoesWhole (Play options attempts) status s t k l v w = Completes (rules_for options attempts) status s t k l
+DoesWhole (Play options attempts) status s t k l v w = PlayEndsWell (options.name ∷ []) options attempts status s t k l
 DoesWhole (New file names options) status s t k l v w = EndsWell (end_given (end_of (files_of names options))) file v w status k l
 DoesWhole (Check file names) status s t k l v w = EndsWell (check_of names) file v w status k l
 DoesWhole (Poll file name times attempts values) status s t k l v w = EndsWell (poll_of (reader_rules name attempts) values) file v w status k l
 DoesWhole (Clear file upgrade) status s t k l v w = EndsWell (clears_of upgrade) file v w status k l
 DoesWhole (Make count seed) status s t k l v w = MakeEndsWell status k l
-DoesWhole (Append file names limit budget keeps) status s t k l v w = AppendTellsWhole file names status s t k l v w
+DoesWhole (Append file names limit budget keeps takes) status s t k l v w = AppendTellsWhole (beginning_of takes) file names status s t k l v w
 DoesWhole (Live options readers polls attempts mirrors) status s t k l v w = ⊥
 DoesWhole (Stop options) status s t k l v w = StopEndsWell options status s t k l
 DoesWhole (Repack file to names limit ranges) status s t k l v w = RepackEndsWell file to names v w status k l

@@ -24,7 +24,7 @@ use Rattle.h5w_text.specs.declared.status.Status.{Status}
 use Rattle.h5w_text.specs.declared.status.Status.TheVariants as statuses
 use Rattle.h5w_files.specs.Ends.{EndsBy}
 use Rattle.h5w_batches.specs.Inputs.{AreAll, input_limit}
-use Rattle.h5w_commands.specs.Plays.{AreFirst}
+use Rattle.h5w_playing.specs.Plays.{AreFirst}
 use Rattle.h5w_core.specs.Worlds.{WorldView}
 use Rattle.h5w_commands.specs.Writing.{Follows, HasDone, LacksPlace, LacksRoom, Refuses, RefusesBy, Rooms, first_error, writing_line_of, writing_rules}
 

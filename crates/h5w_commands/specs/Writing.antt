@@ -18,7 +18,7 @@ use Rattle.h5w_text.specs.declared.error.ErrorLine.TheVariants as errors
 use Rattle.h5w_core.specs.Worlds.{HaveOneLog, StandsFor, WorldView, rules_for, rules_of}
 use Rattle.h5w_stop.specs.Sweeps.{DoAll, Rest, no_rows, rest_after, rest_of}
 use Rattle.h5w_headline.specs.Showing.{showing}
-use Rattle.h5w_commands.specs.Answers.{play_line_of}
+use Rattle.h5w_playing.specs.Answers.{play_line_of}
 
 -- the rules of a script on a file that is created by these options
 abbrev pub writing_rules : Options → Rules

@@ -2,10 +2,11 @@
 ghost use Rattle.std.specs.Prelude.{◌≡◌, ◌*◌, ◌≤◌, ◌^◌, true, length, option_map};
 ghost use Rattle.h5w_batches.specs.Inputs.{SameSource};
 ghost use Rattle.h5w_words.specs.Names.{are_link_names};
-ghost use Rattle.h5w_commands.specs.Appending.{AppendTells, AppendTellsInside, AppendTellsWhole, only_of};
+ghost use Rattle.h5w_commands.specs.Appending.{AppendTells, AppendTellsInside, AppendTellsWhole, beginning_of, only_of};
 
 use h5w_image::Disk;
 use h5w_names::Names;
+use h5w_several_open::Beginning;
 use h5w_text::{Sink, Source, Status};
 use std::alloc::Global;
 
@@ -16,10 +17,21 @@ fn only(names: &Names) -> Option<&[u8]>
     if names.len() == 1 { names.get(0) } else { None }
 }
 
+/// How a session begins: it takes the file over where that is asked for.
+fn beginning_of(takes: bool) -> Beginning
+    ensures { result ≡ beginning_of takes }
+{
+    if takes {
+        Beginning::TakenOver
+    } else {
+        Beginning::Opened
+    }
+}
+
 /// Appends the numbers of the source to datasets of the file of the name `file`, those that the root group's links of
 /// these names lead to: to the one dataset, or to the one that a line `use` named last, at first the first. What becomes
 /// of its lines, and of the rest, is as [`h5w_appending::append`] says of one name, and [`h5w_several_appending::append`]
-/// of more.
+/// of more. The file is opened, or taken over from a session that left it.
 pub fn append<S: Source, K: Sink, D: Disk>(
     alloc: Global,
     file: &str,
@@ -27,6 +39,7 @@ pub fn append<S: Source, K: Sink, D: Disk>(
     limit: u64,
     budget: u64,
     keeps: bool,
+    takes: bool,
     source: &mut S,
     sink: &mut K,
     disk: &mut D,
@@ -35,17 +48,18 @@ pub fn append<S: Source, K: Sink, D: Disk>(
     requires low { 1024 * length names.now ≤ limit }
     requires high { limit ≤ 2 ^ 40 }
     requires budget { (1024 ≤ budget) × (budget ≤ 2 ^ 30) }
-    ensures tells { AppendTells file.now names.now limit (S.view source.old) (S.view source.new) (D.view disk.old) (D.view disk.new) result (K.view sink.old) (K.view sink.new) }
-    ensures inside { AppendTellsInside file.now names.now limit budget keeps (S.view source.old) (S.view source.new) (D.view disk.old) (D.view disk.new) result (K.view sink.old) (K.view sink.new) }
-    ensures completes { AppendTellsWhole file.now names.now result (S.view source.old) (S.view source.new) (K.view sink.old) (K.view sink.new) (D.view disk.old) (D.view disk.new) }
+    ensures tells { AppendTells (beginning_of takes) file.now names.now limit (S.view source.old) (S.view source.new) (D.view disk.old) (D.view disk.new) result (K.view sink.old) (K.view sink.new) }
+    ensures inside { AppendTellsInside (beginning_of takes) file.now names.now limit budget keeps (S.view source.old) (S.view source.new) (D.view disk.old) (D.view disk.new) result (K.view sink.old) (K.view sink.new) }
+    ensures completes { AppendTellsWhole (beginning_of takes) file.now names.now result (S.view source.old) (S.view source.new) (K.view sink.old) (K.view sink.new) (D.view disk.old) (D.view disk.new) }
     ensures source { SameSource (S.view source.old) (S.view source.new) }
 {
+    let by = beginning_of(takes);
     match only(names) {
         Some(name) => h5w_appending::append(
-            alloc, file, name, limit, budget, keeps, source, sink, disk,
+            alloc, by, file, name, limit, budget, keeps, source, sink, disk,
         ),
         None => h5w_several_appending::append(
-            alloc, file, names, limit, budget, keeps, source, sink, disk,
+            alloc, by, file, names, limit, budget, keeps, source, sink, disk,
         ),
     }
 }

@@ -2,14 +2,11 @@
 //! streams as a source and a sink, and the files as a disk.
 #![tactic(auto)]
 
-mod answer;
 mod append;
 mod disk;
-mod ending;
 mod make;
 mod new;
 mod plain;
-mod play;
 mod program;
 mod stop;
 mod streams;

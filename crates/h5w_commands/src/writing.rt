@@ -5,7 +5,7 @@ ghost use Rattle.h5w_options.specs.Options.{AreOptions};
 ghost use Rattle.h5w_options.specs.declared.options.Options.{Options as Created};
 ghost use Rattle.h5w_input.specs.Words.{line_of_script};
 ghost use Rattle.h5w_core.specs.Worlds.{AreRowsBy, HaveOneLog, rules_of};
-ghost use Rattle.h5w_commands.specs.Answers.{InRange};
+ghost use Rattle.h5w_playing.specs.Answers.{InRange};
 ghost use Rattle.h5w_commands.specs.Writing.{Follows, IsAmid, Refuses, ShowsAll, writing};
 
 use h5w_core::{Event, Options, OutOfMemory, Reply, World};

@@ -21,6 +21,8 @@ use Rattle.h5w_reopening.proofs.SinceLemmas.{file_at}
 use Rattle.h5w_reopening.proofs.StopLemmas.{opened_is_writable, stop_reopens}
 use Rattle.h5w_batches.specs.Batches.{Batches}
 use Rattle.h5w_files.specs.Images.{told_bytes}
+use Rattle.h5w_several_open.specs.declared.beginning.Beginning.TheVariants as beginnings
+use Rattle.h5w_several_open.proofs.BeginningLemmas.{not_begun, was_opened}
 use Rattle.h5w_appending.specs.Appends.{IsFree, IsHalted, IsLogOf, NotOpened}
 use Rattle.h5w_appending.specs.Taken.{values_of}
 use Rattle.h5w_continuing.specs.Continues.{AppendOpens, Continues, AppendPut, StoppedContinues, all_values, broke, closed}
@@ -90,16 +92,16 @@ stopped_continues name at limit budget keeps first b v w img rows columns values
     let stands = o.stands img rows columns values sm told valid reads in
     let h = halted_of name first b v w img columns values ws stands put in
     let named : first.name ≡ at = ap (λ (s : Session). s.name) o.is ∙ o.begun.named in
-    continues at img rows columns values sm valid reads short h.session (h.named ∙ named) ws b h.of k within new (opened_is_writable img at limit budget o.opened (o.exact img told)) cleared
+    continues at img rows columns values sm valid reads short h.session (h.named ∙ named) ws b h.of k within new (opened_is_writable img at limit budget o.opened (was_opened img (length img) at limit budget o.opened (o.exact img told))) cleared
 
 -- ---- The next append
 
-told_exact : (t : Option DiskState) (name at : List ℕ) (e : ErrorLine) (img : List ℕ) (rows columns : ℕ) (values : List ℤ) → IfSome t (λ d. IsFree e ⊎ NotOpened at (file d name) e) → told_bytes t name ≡ Some img → Reopens img at rows columns values → IsFree e
+told_exact : (t : Option DiskState) (name at : List ℕ) (e : ErrorLine) (img : List ℕ) (rows columns : ℕ) (values : List ℤ) → IfSome t (λ d. IsFree e ⊎ NotOpened beginnings.Opened at (file d name) e) → told_bytes t name ≡ Some img → Reopens img at rows columns values → IsFree e
 told_exact None name at e img rows columns values h told r = absurd cc
 told_exact (Some d) name at e img rows columns values (inl free) told r = free
 told_exact (Some d) name at e img rows columns values (inr not) told r =
-    let n : NotOpened at (Some img) e = subst (λ o. NotOpened at o e) told not in
-    absurd (r.opens n.0 n.2)
+    let n : NotOpened beginnings.Opened at (Some img) e = subst (λ o. NotOpened beginnings.Opened at o e) told not in
+    absurd (r.opens n.0 (not_begun img (length img) at n.0 n.2))
 
 pub append_opens : AppendOpens
 append_opens name at v w e img rows columns values u told r = told_exact v.told name at e img rows columns values u.exact told r

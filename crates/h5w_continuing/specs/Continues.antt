@@ -8,6 +8,7 @@ use Rattle.h5w_image.specs.View.{DiskView}
 use Rattle.h5w_text.specs.declared.error.ErrorLine.{ErrorLine}
 use Rattle.h5w_session.specs.Sessions.{Session}
 use Rattle.h5w_reopening.specs.Reopens.{IsCleared, Reopens}
+use Rattle.h5w_several_open.specs.declared.beginning.Beginning.TheVariants as beginnings
 use Rattle.h5w_batches.specs.Batches.{Batches}
 use Rattle.h5w_files.specs.Clears.{ClearsTo}
 use Rattle.h5w_files.specs.Images.{told_bytes}
@@ -33,9 +34,9 @@ pub record Continues (img at : List ℕ) (rows columns : ℕ) (all : List ℤ) :
 
 -- ---- Laws
 
--- An append over a valid file that was stopped behind any of its pieces: once the flags of writers are cleared the file is opened again.
+-- An append that opened a valid file, and was stopped behind any of its pieces: once the flags of writers are cleared the file is opened again.
 abbrev pub StoppedContinues : Type 0
-StoppedContinues = (name at : List ℕ) (limit budget : ℕ) (keeps : Bool) (first : Session) (b : Batches) (v w : DiskView) (img : List ℕ) (rows columns : ℕ) (values : List ℤ) (sm : Summary) → IsOpenOver name at limit budget keeps v first
+StoppedContinues = (name at : List ℕ) (limit budget : ℕ) (keeps : Bool) (first : Session) (b : Batches) (v w : DiskView) (img : List ℕ) (rows columns : ℕ) (values : List ℤ) (sm : Summary) → IsOpenOver beginnings.Opened name at limit budget keeps v first
     → told_bytes v.told name ≡ Some img → Valid img at sm → Reads img at rows columns values → length img < 2 ^ 64 → (ws : List Write) (k : ℕ) (new : List ℕ) → AppendPut name first b v w ws → k ≤ length ws
     → IsCleared (image img (take k ws)) new → Continues new at rows columns (all_values values b)
 
@@ -46,4 +47,4 @@ ClearClears = (name : List ℕ) (upgrade : Bool) (v w : DiskView) (found : Clear
 
 -- an append over a file that is opened fails to open it for no reason but the disk, or want of memory
 abbrev pub AppendOpens : Type 0
-AppendOpens = (name at : List ℕ) (v w : DiskView) (e : ErrorLine) (img : List ℕ) (rows columns : ℕ) (values : List ℤ) → Unopened name at v w e → told_bytes v.told name ≡ Some img → Reopens img at rows columns values → IsFree e
+AppendOpens = (name at : List ℕ) (v w : DiskView) (e : ErrorLine) (img : List ℕ) (rows columns : ℕ) (values : List ℤ) → Unopened beginnings.Opened name at v w e → told_bytes v.told name ≡ Some img → Reopens img at rows columns values → IsFree e

@@ -10,7 +10,6 @@ use Rattle.h5w_model.specs.Tables.{format_limits, limit_of, needed}
 use Rattle.h5w_image.specs.View.{DiskView}
 use Rattle.h5w_session.specs.Refusals.{append_refusal, chunks_refusal}
 use Rattle.h5w_session.specs.Sessions.{Session, chunk_limit, chunks_with, rows_of, with_rows}
-use Rattle.h5w_session.specs.declared.refusal.AppendError.{AppendError}
 use Rattle.h5w_session.specs.declared.refusal.AppendError.TheVariants as appends
 use Rattle.h5w_input.specs.LinesAhead.{Given, GivenUp, IntakeView, IsOver, IsWhole, LinesAhead, lines_ahead}
 use Rattle.h5w_input.specs.declared.line.LineError.{LineError}
@@ -31,6 +30,7 @@ use Rattle.h5w_several_batches.specs.declared.line.SetLine.{SetLine}
 use Rattle.h5w_several_batches.specs.declared.line.SetLine.TheVariants.{Numbers}
 use Rattle.h5w_several_batches.proofs.SaidLemmas.{Saying, first_of_all, saying_first, saying_more, says_first, says_none, says_then, says_too_much, says_whole, used-append}
 use Rattle.h5w_several_session_laws.specs.Sessions.{Sessions}
+use Rattle.h5w_appending.proofs.TellLemmas.{other_refusal}
 use Rattle.h5w_several_appending.specs.Appending.{ClosesOn, FlushRefused, HalfTold, IsBegun, IsReady, IsSpelled, LineCause, LinesOn, NeedsPlace, PutsAll, PutsBy, ReadyUnlessDisk, Steps, TakesInput, TakesInputFrom, TakesInputOn, TakesLine, Told, ValuesCause, ValuesRefused, ending_of, no_depth, no_memory, no_place, not_read, not_taken, out_of_range, says_nothing, too_many, wanting}
 use Rattle.h5w_several_appending.specs.Stores.{Stored, datasets_of}
 use Rattle.h5w_several_appending.specs.Taken.{SetBatches, after_all, after_said, columns_in, columns_of, no_sets, of_all, of_first}
@@ -135,13 +135,6 @@ past_it : (a b chunks most : ℕ) (t : Bool) → nat_lt a b ≡ t → (if t then
 past_it a b chunks most true e h = record { chunks_are = cc; limit_is = cc; past = elim (cases_lt a b) [ inl low ↦ low | inr high ↦ absurd (let clash : true ≡ false = sym e ∙ le-ltb a b high in cc) ] }
 past_it a b chunks most false e h = absurd (cc)
 
-chunks_behind : (a b : Bool) (n : ℕ) (o : Option (ℕ × ℤ)) (more : Option AppendError) (chunks most : ℕ)
-    → (if a then Some appends.Stopped else if b then Some (appends.Busy n) else elim o as (λ _. Option AppendError) [ Some x ↦ Some (appends.OutOfRange x.0 x.1) | None ↦ more ]) ≡ Some (appends.Chunks chunks most) → more ≡ Some (appends.Chunks chunks most)
-chunks_behind true b n o more chunks most h = absurd (cc)
-chunks_behind false true n o more chunks most h = absurd (cc)
-chunks_behind false false n (Some x) more chunks most h = absurd (cc)
-chunks_behind false false n None more chunks most h = h
-
 lacks_chunks : (ds : List Described) (S : Sessions) (x : SourceView) (b : SetBatches) (number : ℕ) (values : List ℤ) (s : Session) (chunks most : ℕ) → HasValues ds x b number values → TakenAt ds s b.sets b.used → append_refusal s values ≡ Some (appends.Chunks chunks most)
     → LacksChunks ds x b chunks most
 lacks_chunks ds S x b number values s chunks most at t refused =
@@ -150,7 +143,7 @@ lacks_chunks ds S x b number values s chunks most at t refused =
     let c = s.dataset.shape.cols in
     let more = length values / c in
     let past = past_it (chunk_limit s) (chunks_with s more) chunks most (nat_lt (chunk_limit s) (chunks_with s more)) refl
-    (chunks_behind s.stopped (nat_lt 0 (length s.pending)) (length s.pending) (first_outside s.dataset.int_type 0 values) (chunks_refusal s more) chunks most refused) in
+    (other_refusal s.stopped (nat_lt 0 (length s.pending)) (length s.pending) (first_outside s.dataset.int_type 0 values) (chunks_refusal s more) chunks most refused) in
     let columns : c ≡ d.shape.cols = ap (λ (y : Described). y.shape.cols) taken.dataset in
     let rows : rows_of s ≡ rows_after d.shape.cols d.shape.rows t.own.closed + s.waits = ap (λ n. n + s.waits) taken.rows in
     let same : needed (with_rows (rows_of s + more) s.dataset) ≡ needed (with_rows (rows_of s + more) d) = ap (λ (y : Described). needed (with_rows (rows_of s + more) y)) taken.dataset in

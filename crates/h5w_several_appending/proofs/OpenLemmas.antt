@@ -20,13 +20,14 @@ use Rattle.h5w_files.proofs.ImageLemmas.{looked_files}
 use Rattle.h5w_writer_lines.specs.Lines.{open_line}
 use Rattle.h5w_appending.specs.Appends.{IsFree}
 use Rattle.h5w_appending.specs.Appending.{HasSize}
-use Rattle.h5w_several_open.specs.Answers.{IsNotOpenedBy}
+use Rattle.h5w_several_open.specs.Beginnings.{HaveBegunBy, IsAllAnswer, IsBegunAll, IsNoneBegun}
 use Rattle.h5w_several_open.specs.Begins.{ReadsIt}
-use Rattle.h5w_several_open.specs.Sessions.{BeginsWith, HasBegunAll, IsOpenedAll, IsSessionAnswer}
+use Rattle.h5w_several_open.specs.Sessions.{BeginsWith}
 use Rattle.h5w_several_open.specs.Stands.{opened_file}
 use Rattle.h5w_several_session.specs.Flows.{all_waits}
 use Rattle.h5w_several_session_laws.specs.Sessions.{Sessions, all_pending, keeping}
 use Rattle.h5w_several_session_laws.specs.Standing.{StandsAll}
+use Rattle.h5w_several_open.specs.declared.beginning.Beginning.{Beginning}
 use Rattle.h5w_several_appending.specs.Appending.{IsBegun, IsKept, IsOpenOver}
 use Rattle.h5w_several_appending.specs.Tells.{TellsWhy, Unopened}
 
@@ -43,33 +44,33 @@ still_image r v name size img told sized small = record { told = told; alone = r
 kept_itself : (S : Sessions) → IsKept S S
 kept_itself S = record { session = inl refl; stands = λ log h. h }
 
-pub opens_over : {v : DiskView} (r : ℕ) (name : List ℕ) (names : List (List ℕ)) (limit budget size : ℕ) (S : Sessions) → IsThere v name → size < 2 ^ 64 → HasSize v name size → HasBegunAll names limit budget S
-    → ((img : List ℕ) → IsStill (file_image r name v) img → IsSessionAnswer img size names limit budget (Ok S))
-    → ((img : List ℕ) (t : AllSummary) (sets : List Begun) → IsStill (file_image r name v) img → AllValid img names t → AllPaired (ReadsIt img) names sets → StandsAll S (opened_file img sets)) → IsOpenOver name names limit v S
-opens_over {v} r name names limit budget size S there small sized begun exact stands = record {
+pub opens_over : {v : DiskView} {by : Beginning} (r : ℕ) (name : List ℕ) (names : List (List ℕ)) (limit budget size : ℕ) (S : Sessions) → IsThere v name → size < 2 ^ 64 → HasSize v name size → HaveBegunBy by names limit budget S
+    → ((img : List ℕ) → IsStill (file_image r name v) img → IsAllAnswer by img size names limit budget (Ok S))
+    → ((img : List ℕ) (t : AllSummary) (sets : List Begun) → IsStill (file_image r name v) img → AllValid img names t → AllPaired (ReadsIt img) names sets → StandsAll S (opened_file img sets)) → IsOpenOver by name names limit v S
+opens_over {v = v} {by = by} r name names limit budget size S there small sized begun exact stands = record {
   there = there;
   budget = budget;
   opened = S;
   begun = begun;
   kept = kept_itself S;
-  exact = λ img told. subst (λ n. IsOpenedAll img n names limit budget S) (bytes_sized v.told name size img told sized) (exact img (still_image r v name size img told sized small));
+  exact = λ img told. subst (λ n. IsBegunAll by img n names S) (bytes_sized v.told name size img told sized) (exact img (still_image r v name size img told sized small));
   stands = λ img t sets told valid reads. stands img t sets (still_image r v name size img told sized small) valid reads;
 }
 
 -- ---- It is not
 
-refusal_told : (img : List ℕ) (size limit budget : ℕ) (names : List (List ℕ)) (e : OpenError) → IsSessionAnswer img size names limit budget (Err e) → IsFree (open_line e) ⊎ ((x : OpenError) × (open_line x ≡ open_line e) × IsNotOpenedBy img size names x)
-refusal_told img size limit budget names (opens.Read e) h = inr (opens.Read e, refl, h)
-refusal_told img size limit budget names (opens.Version version) h = inr (opens.Version version, refl, h)
-refusal_told img size limit budget names (opens.Flags flags) h = inr (opens.Flags flags, refl, h)
-refusal_told img size limit budget names (opens.Cut end n) h = inr (opens.Cut end n, refl, h)
-refusal_told img size limit budget names opens.Layout h = inr (opens.Layout, refl, h)
-refusal_told img size limit budget names (opens.ChunkBytes bytes most) h = inr (opens.ChunkBytes bytes most, refl, h)
-refusal_told img size limit budget names opens.NoColumns h = inr (opens.NoColumns, refl, h)
-refusal_told img size limit budget names (opens.Same one other) h = inr ((opens.Same one other), refl, h)
-refusal_told img size limit budget names (opens.Finding kind place) h = inr (opens.Finding kind place, refl, h)
-refusal_told img size limit budget names opens.Failed h = inl (inl refl)
-refusal_told img size limit budget names opens.OutOfMemory h = inl (inr refl)
+refusal_told : (by : Beginning) (img : List ℕ) (size limit budget : ℕ) (names : List (List ℕ)) (e : OpenError) → IsAllAnswer by img size names limit budget (Err e) → IsFree (open_line e) ⊎ ((x : OpenError) × (open_line x ≡ open_line e) × IsNoneBegun by img size names x)
+refusal_told by img size limit budget names (opens.Read e) h = inr (opens.Read e, refl, h)
+refusal_told by img size limit budget names (opens.Version version) h = inr (opens.Version version, refl, h)
+refusal_told by img size limit budget names (opens.Flags flags) h = inr (opens.Flags flags, refl, h)
+refusal_told by img size limit budget names (opens.Cut end n) h = inr (opens.Cut end n, refl, h)
+refusal_told by img size limit budget names opens.Layout h = inr (opens.Layout, refl, h)
+refusal_told by img size limit budget names (opens.ChunkBytes bytes most) h = inr (opens.ChunkBytes bytes most, refl, h)
+refusal_told by img size limit budget names opens.NoColumns h = inr (opens.NoColumns, refl, h)
+refusal_told by img size limit budget names (opens.Same one other) h = inr ((opens.Same one other), refl, h)
+refusal_told by img size limit budget names (opens.Finding kind place) h = inr (opens.Finding kind place, refl, h)
+refusal_told by img size limit budget names opens.Failed h = inl (inl refl)
+refusal_told by img size limit budget names opens.OutOfMemory h = inl (inr refl)
 
 failed_line : (e : OpenError) → open_line e ≡ errors.Disk → e ≡ opens.Failed
 failed_line (opens.Read e) h = absurd (cc)
@@ -84,37 +85,37 @@ failed_line (opens.Finding kind place) h = absurd (cc)
 failed_line opens.Failed h = refl
 failed_line opens.OutOfMemory h = absurd (cc)
 
-why_there : (names : List (List ℕ)) (e : ErrorLine) (size : ℕ) (o : Option (List ℕ)) → Some size ≡ option_map length o → ((img : List ℕ) → o ≡ Some img → IsFree e ⊎ ((x : OpenError) × (open_line x ≡ e) × IsNotOpenedBy img (length img) names x)) → IsFree e ⊎ TellsWhy names o e
-why_there names e size None h f = absurd (cc)
-why_there names e size (Some img) h f = f img refl
+why_there : (by : Beginning) (names : List (List ℕ)) (e : ErrorLine) (size : ℕ) (o : Option (List ℕ)) → Some size ≡ option_map length o → ((img : List ℕ) → o ≡ Some img → IsFree e ⊎ ((x : OpenError) × (open_line x ≡ e) × IsNoneBegun by img (length img) names x)) → IsFree e ⊎ TellsWhy by names o e
+why_there by names e size None h f = absurd (cc)
+why_there by names e size (Some img) h f = f img refl
 
-why_told : (t : Option DiskState) (name : List ℕ) (names : List (List ℕ)) (e : ErrorLine) (size : ℕ) → IfSome t (λ d. Some size ≡ option_map length (file d name))
-    → ((img : List ℕ) → told_bytes t name ≡ Some img → IsFree e ⊎ ((x : OpenError) × (open_line x ≡ e) × IsNotOpenedBy img (length img) names x)) → IfSome t (λ d. IsFree e ⊎ TellsWhy names (file d name) e)
-why_told None name names e size h f = tt
-why_told (Some d) name names e size h f = why_there names e size (file d name) h f
+why_told : (by : Beginning) (t : Option DiskState) (name : List ℕ) (names : List (List ℕ)) (e : ErrorLine) (size : ℕ) → IfSome t (λ d. Some size ≡ option_map length (file d name))
+    → ((img : List ℕ) → told_bytes t name ≡ Some img → IsFree e ⊎ ((x : OpenError) × (open_line x ≡ e) × IsNoneBegun by img (length img) names x)) → IfSome t (λ d. IsFree e ⊎ TellsWhy by names (file d name) e)
+why_told by None name names e size h f = tt
+why_told by (Some d) name names e size h f = why_there by names e size (file d name) h f
 
-pub unopened_by : {A : Type 0} {v w : DiskView} (r q : ℕ) (name other : List ℕ) (names : List (List ℕ)) (limit budget size : ℕ) (x : OpenError) (e : ErrorLine) → size < 2 ^ 64 → HasSize v name size → e ≡ open_line x → Looked (file_image r name v) (file_image q other w)
-    → ((img : List ℕ) → IsStill (file_image r name v) img → IsSessionAnswer img size names limit budget (Err x)) → (◌≡◌ {A = Result A OpenError} (Err x) (Err opens.Failed) → Rose v.faults w.faults) → IsOpenKind x → Unopened name names v w e
-unopened_by {A} {v} {w} r q name other names limit budget size x e small sized is looked exact cause kind = record {
+pub unopened_by : {A : Type 0} {v w : DiskView} {by : Beginning} (r q : ℕ) (name other : List ℕ) (names : List (List ℕ)) (limit budget size : ℕ) (x : OpenError) (e : ErrorLine) → size < 2 ^ 64 → HasSize v name size → e ≡ open_line x → Looked (file_image r name v) (file_image q other w)
+    → ((img : List ℕ) → IsStill (file_image r name v) img → IsAllAnswer by img size names limit budget (Err x)) → (◌≡◌ {A = Result A OpenError} (Err x) (Err opens.Failed) → Rose v.faults w.faults) → IsOpenKind x → Unopened by name names v w e
+unopened_by {A = A} {v = v} {w = w} {by = by} r q name other names limit budget size x e small sized is looked exact cause kind = record {
   disk = looked_files r q name other looked;
-  exact = why_told v.told name names e size sized (λ img told. subst (λ (y : ErrorLine). IsFree y ⊎ ((z : OpenError) × (open_line z ≡ y) × IsNotOpenedBy img (length img) names z)) (sym is)
-      (refusal_told img (length img) limit budget names x (subst (λ n. IsSessionAnswer img n names limit budget (Err x)) (bytes_sized v.told name size img told sized) (exact img (still_image r v name size img told sized small)))));
+  exact = why_told by v.told name names e size sized (λ img told. subst (λ (y : ErrorLine). IsFree y ⊎ ((z : OpenError) × (open_line z ≡ y) × IsNoneBegun by img (length img) names z)) (sym is)
+      (refusal_told by img (length img) limit budget names x (subst (λ n. IsAllAnswer by img n names limit budget (Err x)) (bytes_sized v.told name size img told sized) (exact img (still_image r v name size img told sized small)))));
   kinds = inr (x, sym is, kind);
   cause = λ h. cause (ap Err (failed_line x (sym is ∙ h)));
 }
 
 -- ---- Before it is looked at
 
-pub size_failed : {v w : DiskView} (name : List ℕ) (names : List (List ℕ)) → Leaves 0 v.told v w → Rose v.faults w.faults → Unopened name names v w errors.Disk
-size_failed {v} name names p rose = record { disk = leaves_files 0 v.told p; exact = any_told v.told (λ d. inl (inl refl)); kinds = inr (opens.Failed, refl, tt); cause = λ h. rose }
+pub size_failed : {v w : DiskView} {by : Beginning} (name : List ℕ) (names : List (List ℕ)) → Leaves 0 v.told v w → Rose v.faults w.faults → Unopened by name names v w errors.Disk
+size_failed {v = v} name names p rose = record { disk = leaves_files 0 v.told p; exact = any_told v.told (λ d. inl (inl refl)); kinds = inr (opens.Failed, refl, tt); cause = λ h. rose }
 
-pub room_wanting : {v w : DiskView} (name : List ℕ) (names : List (List ℕ)) → LeavesFiles v.told v w → Unopened name names v w errors.Memory
-room_wanting {v} name names p = record { disk = p; exact = any_told v.told (λ d. inl (inr refl)); kinds = inr (opens.OutOfMemory, refl, tt); cause = λ h. absurd (cc) }
+pub room_wanting : {v w : DiskView} {by : Beginning} (name : List ℕ) (names : List (List ℕ)) → LeavesFiles v.told v w → Unopened by name names v w errors.Memory
+room_wanting {v = v} name names p = record { disk = p; exact = any_told v.told (λ d. inl (inr refl)); kinds = inr (opens.OutOfMemory, refl, tt); cause = λ h. absurd (cc) }
 
 -- ---- From one state to another
 
-pub opened_earlier : {u v : DiskView} (name : List ℕ) (names : List (List ℕ)) (limit : ℕ) (S : Sessions) → LeavesFiles u.told u v → IsOpenOver name names limit v S → IsOpenOver name names limit u S
-opened_earlier {u} {v} name names limit S p h = record {
+pub opened_earlier : {u v : DiskView} {by : Beginning} (name : List ℕ) (names : List (List ℕ)) (limit : ℕ) (S : Sessions) → LeavesFiles u.told u v → IsOpenOver by name names limit v S → IsOpenOver by name names limit u S
+opened_earlier {u = u} {v = v} name names limit S p h = record {
   there = subst (λ (t : Option DiskState). IfSome t (λ d. IsSome (file d name))) p.told h.there;
   budget = h.budget;
   opened = h.opened;
@@ -131,7 +132,7 @@ kept_twice R S T (inr p) (inl q) = inr (p ∙ ap keeping q)
 kept_twice R S T (inr p) (inr q) = inr (p ∙ ap keeping q)
 
 -- what is retired stays so
-pub opened_kept : {v : DiskView} (name : List ℕ) (names : List (List ℕ)) (limit : ℕ) (S T : Sessions) → IsKept S T → IsOpenOver name names limit v S → IsOpenOver name names limit v T
+pub opened_kept : {v : DiskView} {by : Beginning} (name : List ℕ) (names : List (List ℕ)) (limit : ℕ) (S T : Sessions) → IsKept S T → IsOpenOver by name names limit v S → IsOpenOver by name names limit v T
 opened_kept name names limit S T k h = record {
   there = h.there;
   budget = h.budget;
@@ -152,6 +153,6 @@ kept_has : {w : DiskView} (name : List ℕ) (S T : Sessions) → ((T ≡ S) ⊎ 
 kept_has {w} name S T (inl same) h = subst (λ (x : Sessions). IsBegun name x w) (sym same) h
 kept_has {w} name S T (inr same) h = subst (λ (x : Sessions). IsBegun name x w) (sym same) (record { there = h.there; running = h.running; some = h.some; waits = h.waits; room = h.room; end = h.end })
 
-pub begun_kept : {w : DiskView} (name : List ℕ) (names : List (List ℕ)) (limit budget n : ℕ) (S T : Sessions) → HasBegunAll names limit budget S → IsKept S T → IsThere w name → n ≡ length (all_pending S.parts) → n + 1 ≤ w.pieces → S.places.end ≤ w.end name → IsBegun name T w
-begun_kept {w} name names limit budget n S T begun k there count room end =
+pub begun_kept : {w : DiskView} {by : Beginning} (name : List ℕ) (names : List (List ℕ)) (limit budget n : ℕ) (S T : Sessions) → HaveBegunBy by names limit budget S → IsKept S T → IsThere w name → n ≡ length (all_pending S.parts) → n + 1 ≤ w.pieces → S.places.end ≤ w.end name → IsBegun name T w
+begun_kept {w = w} name names limit budget n S T begun k there count room end =
     kept_has name S T k.session (record { there = there; running = begun.going; some = begun.sessions.some; waits = none_begun S.root budget names S.parts begun.each; room = omega (arith, count, room); end = end })

@@ -14,6 +14,7 @@ use Rattle.h5w_several_batches.specs.SetLines.{columns_at}
 use Rattle.h5w_several_session.specs.Flows.{PlansPart, all_waits}
 use Rattle.h5w_several_session_laws.specs.Sessions.{AreSameBut, all_pending}
 use Rattle.h5w_several_session_laws.specs.Valid.{names_in}
+use Rattle.h5w_appending.proofs.ShutLemmas.{none_waiting}
 use Rattle.h5w_several_appending.specs.Puts.{AreAlike, IsAlike}
 use Rattle.h5w_several_appending.specs.Stores.{EachTaken, IsTaken, datasets_of}
 use Rattle.h5w_several_appending.specs.Taken.{add_to, columns_in, columns_of, end_each, none_waits, rows_with}
@@ -195,9 +196,6 @@ taken_rows (d ∷ ds) (s ∷ ss) [] h = absurd h
 taken_rows (d ∷ ds) (s ∷ ss) (b ∷ bs) h =
     ap (λ n. n ∷ rows_with ds (end_each bs)) (ended_rows d.shape.cols d.shape.rows s.waits b h.0.some h.0.waits ∙ ap (λ n. n + s.waits) (sym h.0.rows)) ∙ ap (λ ns. rows_of s ∷ ns) (taken_rows ds ss bs h.1)
 
-no_waits : (c n : ℕ) → 1 ≤ c → 0 ≡ n * c → n ≡ 0
-no_waits c n some e = grind (arith, e, some)
-
 -- how many there are where none wait
 pub taken_done : (ds : List Described) (ss : List Session) (bs : List Batches) → none_waits bs ≡ true → EachTaken ds ss bs → rows_with ds bs ≡ map rows_of ss
 taken_done [] [] [] none h = refl
@@ -207,7 +205,7 @@ taken_done (d ∷ ds) [] bs none h = absurd h
 taken_done (d ∷ ds) (s ∷ ss) [] none h = absurd h
 taken_done (d ∷ ds) (s ∷ ss) (b ∷ bs) none h =
     let empty : 0 ≡ s.waits * d.shape.cols = sym (ap length (none_first b bs none)) ∙ h.0.waits in
-    let zero_waits : s.waits ≡ 0 = no_waits d.shape.cols s.waits h.0.some empty in
+    let zero_waits : s.waits ≡ 0 = none_waiting d.shape.cols s.waits h.0.some empty in
     let rows = h.0.rows in
     let one : rows_after d.shape.cols d.shape.rows b.closed ≡ rows_of s = omega (arith, rows, zero_waits) in
     ap (λ n. n ∷ rows_with ds bs) one ∙ ap (λ ns. rows_of s ∷ ns) (taken_done ds ss bs (none_others b bs none) h.1)

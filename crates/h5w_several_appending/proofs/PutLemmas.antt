@@ -6,9 +6,10 @@ use Rattle.h5w_model.specs.Relations.{AllPaired}
 use Rattle.h5w_model.specs.Several.{FileLog, shows_all}
 use Rattle.h5w_model.specs.declared.piece.Write.{Write}
 use Rattle.h5w_image.specs.View.{DiskState, DiskView, Leaves, put}
+use Rattle.h5w_image.proofs.DiskLemmas.{rose_from}
 use Rattle.h5w_files.specs.Images.{LeavesFiles}
 use Rattle.h5w_appending.specs.Puts.{AllAre, after_puts, counts_of, writes_of}
-use Rattle.h5w_appending.proofs.PutLemmas.{are_both, are_of, length-writes, no_puts, puts_twice, rose_more, writes-append}
+use Rattle.h5w_appending.proofs.PutLemmas.{are_both, are_of, length-writes, no_puts, puts_twice, writes-append}
 use Rattle.h5w_session.specs.Sessions.{Session}
 use Rattle.h5w_several_session.specs.Flows.{KeepsPart, KeepsParts}
 use Rattle.h5w_several_session_laws.specs.Sessions.{Sessions, all_pending}
@@ -137,7 +138,7 @@ unfolding puts_then
 some_then {u} {v} {w} name R S T calm p q = record {
   before = puts_then name R S T calm p q.before;
   left = q.left;
-  rose = rose_more u.faults v.faults w.faults p.disk.faults q.rose;
+  rose = rose_from u.faults v.faults w.faults p.disk.faults q.rose;
 }
 
 -- ---- What is left

@@ -5,7 +5,7 @@ use Rattle.std.proofs.lemmas.Bool.{ne_eqb, eq-eqb}
 use Rattle.h5w_model.specs.Datasets.{Described}
 use Rattle.h5w_batches.specs.Batches.{Batches, end_batch}
 use Rattle.h5w_appending.specs.Taken.{rows_after, values_of}
-use Rattle.h5w_appending.proofs.BatchLemmas.{rows-append, values-append}
+use Rattle.h5w_appending.proofs.BatchLemmas.{rows-append, values-append, divides}
 use Rattle.h5w_several_batches.specs.SetLines.{used_after, used_by}
 use Rattle.h5w_several_batches.specs.declared.line.SetLine.{SetLine}
 use Rattle.h5w_several_batches.specs.declared.line.SetLine.TheVariants.{Numbers, Use}
@@ -91,11 +91,8 @@ none_again b bs e f = ap (λ (t : Bool). t && none_waits bs) (eq-eqb (length b.w
 pub ended_values : (b : Batches) → values_of (end_batch b).closed ≡ values_of b.closed ++ b.waiting
 ended_values b = values-append b.closed (b.waiting ∷ []) ∙ ap (λ (vs : List ℤ). values_of b.closed ++ vs) (append-nil b.waiting)
 
-divided : (n c : ℕ) → 1 ≤ c → n * c / c ≡ n
-divided n c some = grind arith
-
 pub ended_rows : (c rows n : ℕ) (b : Batches) → 1 ≤ c → length b.waiting ≡ n * c → rows_after c rows (end_batch b).closed ≡ rows_after c rows b.closed + n
-ended_rows c rows n b some e = rows-append c rows b.closed b.waiting ∙ ap (λ k. rows_after c rows b.closed + k) (ap (λ k. k / c) e ∙ divided n c some)
+ended_rows c rows n b some e = rows-append c rows b.closed b.waiting ∙ ap (λ k. rows_after c rows b.closed + k) (ap (λ k. k / c) e ∙ divides n c some)
 
 -- ---- Texts
 

@@ -29,6 +29,7 @@ use Rattle.h5w_several_session.specs.Flows.{PlansAll, all_waits}
 use Rattle.h5w_several_session.specs.Refusals.{HasRoomForAll, append_refusal_in}
 use Rattle.h5w_several_session_laws.specs.Sessions.{AppendsTo, AreParts, AreSessions, IsPart, Sessions, all_pending, counts_of as pieces_of}
 use Rattle.h5w_several_session_laws.specs.Standing.{StandsAll, and_then}
+use Rattle.h5w_appending.proofs.StepLemmas.{nothing_put}
 use Rattle.h5w_several_appending.specs.Appending.{AppendsAll, AppendsBy, ClosesOn, FlushesBy, HasNone, IsReady, LineCause, LinesOn, Planned, PutsAll, PutsBy, ReadyUnlessDisk, SaysOn, Told, Unflushed, ending_of, not_read, not_taken, says_nothing, wanting}
 use Rattle.h5w_several_appending.specs.Stores.{Stored, datasets_of}
 use Rattle.h5w_several_appending.specs.Taken.{SetBatches, close_each, columns_in, end_each, rows_with, told_line, told_text}
@@ -253,9 +254,6 @@ columns_batch n name S T R plan q = alike_columns T.parts R.parts q.puts.keeps.p
 
 pub told_unput : {u v w : DiskView} {k l : SinkView} (name : List ℕ) (first S : Sessions) (b : SetBatches) → Unput name v w → Told name first S b u v k l → Told name first S b u w k l
 told_unput name first S b p t = record { stored = stored_same name first S b p t.stored; gave = t.gave }
-
-nothing_put : (v : DiskView) (name : List ℕ) → Unput name v v
-nothing_put v name = record { disk = record { told = refl; faults = omega arith; through = refl }; room = omega arith; end = omega arith }
 
 -- its flush was refused, or the image failed
 pub closes_ended : {v w : DiskView} (k : SinkView) (n : ℕ) (name : List ℕ) (S T : Sessions) (e : Ending) → IsReady name S v → Unput name v w → FlushesBy name S T v w (Err e) → ClosesOn n name S T v w k k (Err e)

@@ -8,14 +8,15 @@ use Rattle.h5w_model.specs.Several.{Begun, FileLog, appends_to, pieces_in, plans
 use Rattle.h5w_model.specs.declared.piece.Write.{Write}
 use Rattle.h5w_model.specs.declared.root.Super.{Super}
 use Rattle.h5w_image.specs.View.{DiskView}
+use Rattle.h5w_image.proofs.DiskLemmas.{rose_from}
 use Rattle.h5w_session.specs.Sessions.{Session, stopped_of, with_values}
 use Rattle.h5w_batches.specs.Batches.{Batches, no_batches}
 use Rattle.h5w_files.specs.Images.{LeavesFiles}
 use Rattle.h5w_appending.specs.Appending.{Unput}
 use Rattle.h5w_appending.specs.Puts.{ComesFirst, counts_of, writes_of}
 use Rattle.h5w_appending.specs.Taken.{values_of}
-use Rattle.h5w_appending.proofs.PutLemmas.{are_both, are_of, no_puts, rose_more, writes-append}
-use Rattle.h5w_appending.proofs.StoreLemmas.{agrees, puts_more, rose_halted, unput_more, writes_both}
+use Rattle.h5w_appending.proofs.PutLemmas.{are_both, are_of, no_puts, writes-append}
+use Rattle.h5w_appending.proofs.StoreLemmas.{agrees, puts_more, rose_halted, unput_more, writes_both, first_more}
 use Rattle.h5w_several_batches.specs.SetLines.{columns_at}
 use Rattle.h5w_several_open.specs.Stands.{opened_file}
 use Rattle.h5w_several_session.specs.Flows.{all_waits}
@@ -36,9 +37,6 @@ use Rattle.h5w_several_appending.proofs.SetLemmas.{close_some}
 
 first_idle : (vs ws ps : List Write) → ps ≡ [] → ComesFirst vs (ws ++ ps) → ComesFirst vs ws
 first_idle vs ws ps idle h = (h.0, h.1 ∙ ap (λ (x : List Write). ws ++ x) idle ∙ append-nil ws)
-
-first_more : (vs ws xs : List Write) → ComesFirst vs ws → ComesFirst vs (ws ++ xs)
-first_more vs ws xs h = (h.0 ++ xs, sym (append_assoc vs h.0 xs) ∙ ap (λ (x : List Write). x ++ xs) h.1)
 
 pub first_later : (vs ws ps qs : List Write) → ps ≡ [] → ComesFirst vs (ws ++ ps) → ComesFirst vs (ws ++ qs)
 first_later vs ws ps qs idle h = first_more vs ws qs (first_idle vs ws ps idle h)
@@ -217,7 +215,7 @@ broke_before {u} {v} {w} name first S T b a p rose h = record {
   puts = h.puts;
   disk = unput_more name h.puts h.disk p.disk;
   since = h.since;
-  rose = rose_more u.faults v.faults w.faults h.disk.faults rose;
+  rose = rose_from u.faults v.faults w.faults h.disk.faults rose;
   begins = agrees (all_pending first.parts) (writes_of h.puts) (all_pending S.parts) h.begins;
   logs = λ img sets stands.
       halted_of img sets (names_in first.parts) first.places.limit S T (writes_of h.puts) b (halted_names S T a ∙ h.taken.names) (ap (λ (x : Sessions). x.places.limit) a.session ∙ h.taken.limit) a.stands (h.logs img sets stands);

@@ -1,5 +1,5 @@
 -- What a session of several datasets leaves of its file, in words of the file and of a log.
-use Rattle.std.proofs.Common.{◌≡◌, ◌⊎◌, ℕ, suc, ◌+◌, ◌/◌, ◌%◌, ◌^◌, ◌≤◌, max, false, List, [], ◌∷◌, ◌++◌, length, take, ℤ, Option, Result, Ok, Err, refl, sym, ap, ◌∙◌, subst, inl, inr, arith, tests}
+use Rattle.std.proofs.Common.{◌≡◌, ◌⊎◌, ℕ, suc, ◌+◌, ◌/◌, ◌^◌, ◌≤◌, max, List, [], ◌∷◌, ◌++◌, length, take, ℤ, Option, Ok, refl, sym, ap, ◌∙◌, subst, inl, inr, arith}
 use Rattle.std.specs.Prelude.{slice_get, option_map}
 use Rattle.std.proofs.lemmas.List.{length-map}
 use Rattle.h5w_model.specs.Datasets.{Described}
@@ -16,20 +16,19 @@ use Rattle.h5w_model.specs.declared.piece.Write.{Write}
 use Rattle.h5w_model.specs.declared.root.Super.{Super}
 use Rattle.h5w_image.specs.View.{DiskState, DiskView}
 use Rattle.h5w_space.specs.declared.Full.{Full}
-use Rattle.h5w_opening.specs.Openings.{is_open}
 use Rattle.h5w_session.specs.Sessions.{Session, cleared}
 use Rattle.h5w_files.specs.Images.{LeavesFiles, told_bytes}
 use Rattle.h5w_batches.specs.Batches.{Batches}
 use Rattle.h5w_appending.specs.Puts.{after_puts, writes_of}
 use Rattle.h5w_appending.specs.Taken.{values_of}
 use Rattle.h5w_appending.specs.Tells.{IsDatasetIn, cut_of}
-use Rattle.h5w_appending.proofs.AppendLemmas.{front_of}
+use Rattle.h5w_appending.proofs.AppendLemmas.{front_of, ok_is}
 use Rattle.h5w_appending.proofs.ShutLemmas.{bytes_after}
-use Rattle.h5w_session_open.specs.OpenAnswers.{writing_flags}
 use Rattle.h5w_text.specs.Streams.{SourceView}
 use Rattle.h5w_text.specs.declared.error.ErrorLine.{ErrorLine}
 use Rattle.h5w_several_laws.proofs.SeenLemmas.{seen_laws}
-use Rattle.h5w_several_open.specs.Sessions.{HasDatasetAt}
+use Rattle.h5w_several_open.specs.Beginnings.{HadFlags, HasDatasetBy, root_by, shut_by}
+use Rattle.h5w_several_open.proofs.BeginningLemmas.{shut_root}
 use Rattle.h5w_several_session_laws.specs.Bounds.{cuttings_of}
 use Rattle.h5w_several_session_laws.specs.Laws.{PartTells}
 use Rattle.h5w_several_session_laws.specs.Sessions.{Sessions, keeping}
@@ -39,6 +38,7 @@ use Rattle.h5w_several_session_laws.specs.Valid.{names_in}
 use Rattle.h5w_several_session_laws.proofs.GiveLemmas.{standing_all}
 use Rattle.h5w_several_session_laws.proofs.SeenLemmas.{length_pieces}
 use Rattle.h5w_several_session_laws.proofs.TogetherLemmas.{all_names_laws}
+use Rattle.h5w_several_open.specs.declared.beginning.Beginning.{Beginning}
 use Rattle.h5w_several_appending.specs.Appending.{IsOpenOver, NeedsPlace}
 use Rattle.h5w_several_appending.specs.Stores.{Broke, ClosedUp, EachSet, EachTaken, IsEither, IsHalted, IsLogOf, IsSettled, IsStored, OfEachLog, datasets_of}
 use Rattle.h5w_several_appending.specs.Taken.{SetBatches}
@@ -64,28 +64,28 @@ named_each [] (s ∷ ss) f h = absurd h
 named_each (name ∷ names) [] f h = absurd h
 named_each (name ∷ names) (s ∷ ss) f h = ap (λ (n : List ℕ). n ∷ names_in ss) (f name s h.0) ∙ ap (λ (ns : List (List ℕ)). name ∷ ns) (named_each names ss f h.1)
 
-first_names : {v : DiskView} (name : List ℕ) (names : List (List ℕ)) (limit : ℕ) (first : Sessions) → IsOpenOver name names limit v first → names_in first.parts ≡ names
+first_names : {v : DiskView} {by : Beginning} (name : List ℕ) (names : List (List ℕ)) (limit : ℕ) (first : Sessions) → IsOpenOver by name names limit v first → names_in first.parts ≡ names
 first_names name names limit first h = ap names_in (opened_parts h.opened first h.kept.session) ∙ named_each names h.opened.parts (λ n s x. x.named) h.begun.each
 
-first_limit : {v : DiskView} (name : List ℕ) (names : List (List ℕ)) (limit : ℕ) (first : Sessions) → IsOpenOver name names limit v first → first.places.limit ≡ limit
+first_limit : {v : DiskView} {by : Beginning} (name : List ℕ) (names : List (List ℕ)) (limit : ℕ) (first : Sessions) → IsOpenOver by name names limit v first → first.places.limit ≡ limit
 first_limit name names limit first h = opened_limit h.opened first h.kept.session ∙ h.begun.limited
 
-some_names : {v : DiskView} (name : List ℕ) (names : List (List ℕ)) (limit : ℕ) (first : Sessions) → IsOpenOver name names limit v first → 1 ≤ length names
+some_names : {v : DiskView} {by : Beginning} (name : List ℕ) (names : List (List ℕ)) (limit : ℕ) (first : Sessions) → IsOpenOver by name names limit v first → 1 ≤ length names
 some_names name names limit first h =
     let some = h.begun.sessions.some in
     subst (λ n. 1 ≤ n) (sym (length-map h.opened.parts (λ (s : Session). s.name)) ∙ ap length (named_each names h.opened.parts (λ n s x. x.named) h.begun.each)) some
 
-datasets_in : (img : List ℕ) (names : List (List ℕ)) (ss : List Session) → AllPaired (HasDatasetAt img (length img)) names ss → AllPaired (λ (at : List ℕ) (d : Described). IsDatasetIn img at d) names (datasets_of ss)
-datasets_in img [] [] h = tt
-datasets_in img [] (s ∷ ss) h = absurd h
-datasets_in img (name ∷ names) [] h = absurd h
-datasets_in img (name ∷ names) (s ∷ ss) h = (record { found = h.0.found; is = h.0.is; unrefused = h.0.unrefused; dataset = sym h.0.dataset }, datasets_in img names ss h.1)
+datasets_in : (by : Beginning) (img : List ℕ) (names : List (List ℕ)) (ss : List Session) → AllPaired (HasDatasetBy by img (length img)) names ss → AllPaired (λ (at : List ℕ) (d : Described). IsDatasetIn by img at d) names (datasets_of ss)
+datasets_in by img [] [] h = tt
+datasets_in by img [] (s ∷ ss) h = absurd h
+datasets_in by img (name ∷ names) [] h = absurd h
+datasets_in by img (name ∷ names) (s ∷ ss) h = (record { found = h.0.found; is = h.0.is; unrefused = h.0.unrefused; dataset = sym h.0.dataset }, datasets_in by img names ss h.1)
 
-pub has_datasets : {v : DiskView} (name : List ℕ) (names : List (List ℕ)) (limit : ℕ) (first : Sessions) → IsOpenOver name names limit v first → HasDatasets name names v (datasets_of first.parts)
-has_datasets name names limit first h = record {
+pub has_datasets : {v : DiskView} {by : Beginning} (name : List ℕ) (names : List (List ℕ)) (limit : ℕ) (first : Sessions) → IsOpenOver by name names limit v first → HasDatasets by name names v (datasets_of first.parts)
+has_datasets {by = by} name names limit first h = record {
   there = h.there;
-  are = λ img told. subst (λ (ss : List Session). AllPaired (λ (at : List ℕ) (d : Described). IsDatasetIn img at d) names (datasets_of ss)) (sym (opened_parts h.opened first h.kept.session))
-      (datasets_in img names h.opened.parts (h.exact img told).datasets);
+  are = λ img told. subst (λ (ss : List Session). AllPaired (λ (at : List ℕ) (d : Described). IsDatasetIn by img at d) names (datasets_of ss)) (sym (opened_parts h.opened first h.kept.session))
+      (datasets_in by img names h.opened.parts (h.exact img told).datasets);
 }
 
 -- ---- What a session tells of each dataset
@@ -219,7 +219,7 @@ module _ (P : List Happened → ℕ → Begun → Batches → Type 0) (Flushed :
 -- ---- What is left
 
 -- of a session that was stopped, where the file was valid
-module _ (P : List Happened → ℕ → Begun → Batches → Type 0) (Flushed : List ℤ → Batches → List ℤ → Type 0) (f : TellsOf P Flushed) {v w : DiskView} (name : List ℕ) (names : List (List ℕ)) (limit : ℕ) (first : Sessions) (b : SetBatches) (puts : List (Write × ℕ)) (opened : IsOpenOver name names limit v first)
+module _ (P : List Happened → ℕ → Begun → Batches → Type 0) (Flushed : List ℤ → Batches → List ℤ → Type 0) (f : TellsOf P Flushed) {v w : DiskView} {by : Beginning} (name : List ℕ) (names : List (List ℕ)) (limit : ℕ) (first : Sessions) (b : SetBatches) (puts : List (Write × ℕ)) (opened : IsOpenOver by name names limit v first)
     (disk : LeavesFiles (option_map (after_puts name puts) v.told) v w) (logs : OfEachLog first (λ img sets. IsHalted P img sets (names_in first.parts) first.places.limit (writes_of puts) b)) where
   named : names_in first.parts ≡ names
   named = first_names name names limit first opened
@@ -241,27 +241,16 @@ module _ (P : List Happened → ℕ → Begun → Batches → Type 0) (Flushed :
       let h = logs img sets (opened.stands img t sets told valid reads) in
       logs_over P Flushed f img sets names limit h.session (writes_of puts) h.log b.sets (h.names_are ∙ named) h.of h.each b refl (h.limit_is ∙ first_limit name names limit first opened) high (some_names name names limit first opened)
 
-flags_none : (flags : ℕ) → is_open flags ≡ false → (flags % 2 ≡ 0) × (flags / 4 % 2 ≡ 0)
-flags_none flags closed = (grind (arith, tests), grind (arith, tests))
-
-ok_same : {E : Type 0} (a b : Super) → ◌≡◌ {A = Result Super E} (Ok a) (Ok b) → a ≡ b
-ok_same {E} a b e = ap (λ (r : Result Super E). elim r [ Ok x ↦ x | Err x ↦ a ]) e
-
 -- the superblock is the one that the file had
-left_shut : {v w : DiskView} (name : List ℕ) (names : List (List ℕ)) (limit : ℕ) (first : Sessions) (b : SetBatches) → IsOpenOver name names limit v first → ClosedUp name first b v w → ShutAgain name v w
-left_shut {v} {w} name names limit first b opened c = λ img root told reads.
+left_shut : {v w : DiskView} {by : Beginning} (name : List ℕ) (names : List (List ℕ)) (limit : ℕ) (first : Sessions) (b : SetBatches) → IsOpenOver by name names limit v first → ClosedUp name first b v w → ShutAgain by name v w
+left_shut {v = v} {w = w} {by = by} name names limit first b opened c = λ img root told reads.
     let over = opened.exact img told in
-    let front = over.opened.front.root in
-    let same : root ≡ front = ok_same root front (sym reads ∙ over.super) in
-    let none = flags_none front.flags over.closed in
-    let opened_is : opened.opened.root ≡ record front { version = 3; flags = writing_flags front.flags } = ap (λ (x : Sessions). x.root) over.is ∙ over.root_is in
-    let first_is : first.root ≡ opened.opened.root = opened_root opened.opened first opened.kept.session in
-    let back : cleared first.root.flags ≡ front.flags = ap (λ (x : Super). cleared x.flags) first_is ∙ over.clears in
-    let is : c.root ≡ record root { end = c.root.end } =
-    c.root_is ∙ ap (λ (n : ℕ). record (first.root) { end = c.root.end; flags = n }) back ∙ ap (λ (x : Super). record x { end = c.root.end; flags = front.flags }) (first_is ∙ opened_is)
-    ∙ ap (λ (n : ℕ). record front { version = n; end = c.root.end }) (sym over.version) ∙ ap (λ (x : Super). record x { end = c.root.end }) (sym same) in (
-      ap (λ (x : Super). x.flags % 2) same ∙ none.0,
-      ap (λ (x : Super). x.flags / 4 % 2) same ∙ none.1,
+    let same : root ≡ over.root = ok_is root over.root (sym reads ∙ over.super) in
+    let first_is : first.root ≡ root_by by over.root = opened_root opened.opened first opened.kept.session ∙ over.root_is in
+    let is : c.root ≡ record (shut_by by root) { end = c.root.end } =
+    c.root_is ∙ ap (λ (x : Super). record x { end = c.root.end; flags = cleared x.flags }) first_is ∙ ap (λ (x : Super). record x { end = c.root.end }) (shut_root by over.root over.flags)
+    ∙ ap (λ (x : Super). record (shut_by by x) { end = c.root.end }) (sym same) in (
+      subst (λ (x : Super). HadFlags by x.flags) (sym same) over.flags,
       record {
         bytes = image img (writes_of c.puts);
         told = ap (λ (t : Option DiskState). told_bytes t name) c.disk.told ∙ bytes_after name c.puts img v.told told;
@@ -270,7 +259,7 @@ left_shut {v} {w} name names limit first b opened c = λ img root told reads.
       },
     )
 
-pub is_closed : {v w : DiskView} (name : List ℕ) (names : List (List ℕ)) (limit : ℕ) (first : Sessions) (b : SetBatches) → limit ≤ 2 ^ 40 → IsOpenOver name names limit v first → ClosedUp name first b v w → IsClosed name names b v w
+pub is_closed : {v w : DiskView} {by : Beginning} (name : List ℕ) (names : List (List ℕ)) (limit : ℕ) (first : Sessions) (b : SetBatches) → limit ≤ 2 ^ 40 → IsOpenOver by name names limit v first → ClosedUp name first b v w → IsClosed by name names b v w
 is_closed name names limit first b high opened c = record {
   puts = c.puts;
   disk = c.disk;
@@ -280,7 +269,7 @@ is_closed name names limit first b high opened c = record {
   shut = left_shut name names limit first b opened c;
 }
 
-pub is_broken : {v w : DiskView} (name : List ℕ) (names : List (List ℕ)) (limit : ℕ) (first : Sessions) (b : SetBatches) → limit ≤ 2 ^ 40 → IsOpenOver name names limit v first → Broke name first b v w → IsBroken name names b v w
+pub is_broken : {v w : DiskView} {by : Beginning} (name : List ℕ) (names : List (List ℕ)) (limit : ℕ) (first : Sessions) (b : SetBatches) → limit ≤ 2 ^ 40 → IsOpenOver by name names limit v first → Broke name first b v w → IsBroken name names b v w
 is_broken name names limit first b high opened c = record {
   puts = c.puts;
   disk = c.disk;
@@ -299,7 +288,7 @@ taken_cuts (d ∷ ds) [] bs h = absurd h
 taken_cuts (d ∷ ds) (s ∷ ss) [] h = absurd h
 taken_cuts (d ∷ ds) (s ∷ ss) (b ∷ bs) h = ap (λ (c : Cutting). c ∷ cuttings_of ss) (ap cut_of h.0.dataset) ∙ ap (λ (cs : List Cutting). cut_of d ∷ cs) (taken_cuts ds ss bs h.1)
 
-lacks_place : {v : DiskView} (name : List ℕ) (names : List (List ℕ)) (limit : ℕ) (first : Sessions) (b : SetBatches) (full : Full) → IsOpenOver name names limit v first → NeedsPlace name first v b full
+lacks_place : {v : DiskView} {by : Beginning} (name : List ℕ) (names : List (List ℕ)) (limit : ℕ) (first : Sessions) (b : SetBatches) (full : Full) → IsOpenOver by name names limit v first → NeedsPlace name first v b full
     → OfFile name names v (λ img sets. LacksPlace (datasets_of first.parts) img names sets limit b full)
 lacks_place name names limit first b full opened h = λ img t sets told valid reads.
     let l = h.stored.logs img sets (opened.stands img t sets told valid reads) in
@@ -315,7 +304,7 @@ lacks_place name names limit first b full opened h = λ img t sets told valid re
       size_bound = subst (λ (cs : List Cutting). full.size ≤ load_all cs l.log) (taken_cuts (datasets_of first.parts) h.session.parts b.sets taken.parts) none.size_bound;
     }
 
-pub is_why : {v : DiskView} (name : List ℕ) (names : List (List ℕ)) (limit : ℕ) (first : Sessions) (s t : SourceView) (b : SetBatches) (e : ErrorLine) → IsOpenOver name names limit v first → IsWhyBy (NeedsPlace name first v) (datasets_of first.parts) s t b e → IsWhy name names limit (datasets_of first.parts) s t b v e
+pub is_why : {v : DiskView} {by : Beginning} (name : List ℕ) (names : List (List ℕ)) (limit : ℕ) (first : Sessions) (s t : SourceView) (b : SetBatches) (e : ErrorLine) → IsOpenOver by name names limit v first → IsWhyBy (NeedsPlace name first v) (datasets_of first.parts) s t b e → IsWhy name names limit (datasets_of first.parts) s t b v e
 is_why name names limit first s t b e opened (of_line n line at none) = of_line n line at none
 is_why name names limit first s t b e opened (of_range n i x values d at is out) = of_range n i x values d at is out
 is_why name names limit first s t b e opened (of_chunks chunks most h) = of_chunks chunks most h

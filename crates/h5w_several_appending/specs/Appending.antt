@@ -18,7 +18,8 @@ use Rattle.h5w_batches.specs.declared.error.BatchError.{BatchError}
 use Rattle.h5w_batches.specs.declared.error.BatchError.TheVariants as batch_errors
 use Rattle.h5w_appending.specs.Puts.{AllAre, counts_of}
 use Rattle.h5w_several_open.specs.Begins.{ReadsIt}
-use Rattle.h5w_several_open.specs.Sessions.{HasBegunAll, IsOpenedAll}
+use Rattle.h5w_several_open.specs.Beginnings.{HaveBegunBy, IsBegunAll}
+use Rattle.h5w_several_open.specs.declared.beginning.Beginning.{Beginning}
 use Rattle.h5w_several_open.specs.Stands.{opened_file}
 use Rattle.h5w_several_session.specs.Flows.{PlansAll, all_waits}
 use Rattle.h5w_several_session.specs.Refusals.{NoPlaceAll}
@@ -232,7 +233,7 @@ ending_of e = endings.Refused (refusal_of_input e)
 
 -- ---- A file
 
--- The session has just opened the file, which has room for the pending piece and the one that closes it.
+-- The session has just begun over the file, which has room for what is pending and the piece that closes it.
 pub record IsBegun (name : List ℕ) (S : Sessions) (v : DiskView) : Type 0 where
   pub there : IsThere v name
   pub running : S.stopped ≡ false
@@ -271,44 +272,44 @@ pub record IsKept (S T : Sessions) : Type 0 where
 
 -- The session that begins over the file, which is there if the disk tells its files. Over a file that is valid for all names it is that of the log to which
 -- nothing happened yet.
-pub record IsOpenOver (name : List ℕ) (names : List (List ℕ)) (limit : ℕ) (v : DiskView) (first : Sessions) : Type 0 where
+pub record IsOpenOver (by : Beginning) (name : List ℕ) (names : List (List ℕ)) (limit : ℕ) (v : DiskView) (first : Sessions) : Type 0 where
   pub there : IsThere v name
   pub budget : ℕ
   pub opened : Sessions
-  pub begun : HasBegunAll names limit budget opened
+  pub begun : HaveBegunBy by names limit budget opened
   pub kept : IsKept opened first
-  pub exact : (img : List ℕ) → told_bytes v.told name ≡ Some img → IsOpenedAll img (length img) names limit budget opened
+  pub exact : (img : List ℕ) → told_bytes v.told name ≡ Some img → IsBegunAll by img (length img) names opened
   pub stands : (img : List ℕ) (t : AllSummary) (sets : List Begun) → told_bytes v.told name ≡ Some img → AllValid img names t → AllPaired (ReadsIt img) names sets → StandsAll first (opened_file img sets)
 
 -- what the look of an open gives
-abbrev pub LooksOpen : List ℕ → List (List ℕ) → (limit budget : ℕ) → DiskView → DiskView → Result Sessions ErrorLine → Type 0
-LooksOpen name names limit budget v w (Ok S) = IsOpenOver name names limit v S × HasBegunAll names limit budget S
-LooksOpen name names limit budget v w (Err e) = Unopened name names v w e
+abbrev pub LooksOpen : Beginning → List ℕ → List (List ℕ) → (limit budget : ℕ) → DiskView → DiskView → Result Sessions ErrorLine → Type 0
+LooksOpen by name names limit budget v w (Ok S) = IsOpenOver by name names limit v S × HaveBegunBy by names limit budget S
+LooksOpen by name names limit budget v w (Err e) = Unopened by name names v w e
 
 -- what an open gives
-abbrev pub OpensBy : List ℕ → List (List ℕ) → (limit : ℕ) → DiskView → DiskView → Result Sessions ErrorLine → Type 0
-OpensBy name names limit v w (Ok S) = IsOpenOver name names limit v S × IsBegun name S w × LeavesFiles v.told v w
-OpensBy name names limit v w (Err e) = Unopened name names v w e
+abbrev pub OpensBy : Beginning → List ℕ → List (List ℕ) → (limit : ℕ) → DiskView → DiskView → Result Sessions ErrorLine → Type 0
+OpensBy by name names limit v w (Ok S) = IsOpenOver by name names limit v S × IsBegun name S w × LeavesFiles v.told v w
+OpensBy by name names limit v w (Err e) = Unopened by name names v w e
 
 -- ---- The whole append
 
 -- The session that began over the file took its input and was closed, or the disk failed. The text is the last line of all.
-pub record Finishes (name : List ℕ) (names : List (List ℕ)) (limit : ℕ) (x y : SourceView) (v w : DiskView) (k l : SinkView) (text : List ℕ) (result : Result (Unit {0}) Ending) : Type 0 where
+pub record Finishes (by : Beginning) (name : List ℕ) (names : List (List ℕ)) (limit : ℕ) (x y : SourceView) (v w : DiskView) (k l : SinkView) (text : List ℕ) (result : Result (Unit {0}) Ending) : Type 0 where
   pub first : Sessions
-  pub opened : IsOpenOver name names limit v first
+  pub opened : IsOpenOver by name names limit v first
   pub rows : List ℕ
   pub settles : Settles name rows first x y v w k l result
   pub line : OnOk result (text ≡ closed_line rows)
 
 -- The file was not opened: nothing was read and nothing written.
-pub record BeginsNone (name : List ℕ) (names : List (List ℕ)) (x y : SourceView) (v w : DiskView) (k l : SinkView) (e : ErrorLine) : Type 0 where
-  pub unopened : Unopened name names v w e
+pub record BeginsNone (by : Beginning) (name : List ℕ) (names : List (List ℕ)) (x y : SourceView) (v w : DiskView) (k l : SinkView) (e : ErrorLine) : Type 0 where
+  pub unopened : Unopened by name names v w e
   pub unread : y ≡ x
   pub unwritten : l ≡ k
 
 -- either, by the result of it all
-abbrev pub FinishesBy : List ℕ → List (List ℕ) → (limit : ℕ) → SourceView → SourceView → DiskView → DiskView → SinkView → SinkView → List ℕ → Result (Unit {0}) Ending → Type 0
-FinishesBy name names limit x y v w k l text (Ok a) = Finishes name names limit x y v w k l text (Ok a)
-FinishesBy name names limit x y v w k l text (Err (endings.Refused e)) = BeginsNone name names x y v w k l e ⊎ Finishes name names limit x y v w k l text (Err (endings.Refused e))
-FinishesBy name names limit x y v w k l text (Err endings.Disk) = Finishes name names limit x y v w k l text (Err endings.Disk)
-FinishesBy name names limit x y v w k l text (Err endings.Sink) = Finishes name names limit x y v w k l text (Err endings.Sink)
+abbrev pub FinishesBy : Beginning → List ℕ → List (List ℕ) → (limit : ℕ) → SourceView → SourceView → DiskView → DiskView → SinkView → SinkView → List ℕ → Result (Unit {0}) Ending → Type 0
+FinishesBy by name names limit x y v w k l text (Ok a) = Finishes by name names limit x y v w k l text (Ok a)
+FinishesBy by name names limit x y v w k l text (Err (endings.Refused e)) = BeginsNone by name names x y v w k l e ⊎ Finishes by name names limit x y v w k l text (Err (endings.Refused e))
+FinishesBy by name names limit x y v w k l text (Err endings.Disk) = Finishes by name names limit x y v w k l text (Err endings.Disk)
+FinishesBy by name names limit x y v w k l text (Err endings.Sink) = Finishes by name names limit x y v w k l text (Err endings.Sink)

@@ -8,6 +8,7 @@ pub use Rattle.h5w_batches.specs.Batches
 pub use Rattle.h5w_batches.specs.Inputs
 pub use Rattle.h5w_several_batches.specs.SetLines
 pub use Rattle.h5w_several_batches.specs.SetInputs
+pub use Rattle.h5w_several_open.specs.Beginnings
 pub mod Taken
 pub mod Puts
 pub mod Stores

@@ -1,5 +1,5 @@
 -- What an append to several datasets of a file tells and what it leaves, in words of the file's bytes, of its datasets and of a log.
-use Rattle.std.specs.Prelude.{◌≡◌, ◌⊎◌, ℕ, suc, ◌+◌, ◌*◌, ◌/◌, ◌%◌, ◌^◌, ◌<◌, ◌≤◌, true, List, [], ◌∷◌, ◌++◌, length, map, max, slice_get, option_map, Option, Some, None, IfSome, Result, Ok, Err, ℤ}
+use Rattle.std.specs.Prelude.{◌≡◌, ◌⊎◌, ℕ, suc, ◌+◌, ◌*◌, ◌/◌, ◌^◌, ◌<◌, ◌≤◌, true, List, [], ◌∷◌, ◌++◌, length, map, max, slice_get, option_map, Option, Some, None, IfSome, Result, Ok, Err, ℤ}
 use Rattle.h5w_model.specs.Causes.{Rose}
 use Rattle.h5w_model.specs.Datasets.{Described}
 use Rattle.h5w_model.specs.Findings.{AllSummary, AllValid}
@@ -32,7 +32,8 @@ use Rattle.h5w_appending.specs.Appends.{IsFree, IsOfOpen, IsShut}
 use Rattle.h5w_appending.specs.Puts.{after_puts, writes_of}
 use Rattle.h5w_appending.specs.Taken.{rows_after, values_of}
 use Rattle.h5w_appending.specs.Tells.{IsDatasetIn, cut_of}
-use Rattle.h5w_several_open.specs.Answers.{IsNotOpenedBy}
+use Rattle.h5w_several_open.specs.Beginnings.{HadFlags, IsNoneBegun, shut_by}
+use Rattle.h5w_several_open.specs.declared.beginning.Beginning.{Beginning}
 use Rattle.h5w_several_open.specs.Begins.{ReadsIt}
 use Rattle.h5w_several_open.specs.Stands.{opened_file}
 use Rattle.h5w_several_session_laws.specs.Together.{file_at}
@@ -45,9 +46,9 @@ use Rattle.h5w_several_appending.specs.Taken.{AreTaken, SetBatches, after_all, c
 -- ---- The file
 
 -- The file is there; if the disk tells its bytes, these are its datasets by these names, in their order.
-pub record HasDatasets (name : List ℕ) (names : List (List ℕ)) (v : DiskView) (ds : List Described) : Type 0 where
+pub record HasDatasets (by : Beginning) (name : List ℕ) (names : List (List ℕ)) (v : DiskView) (ds : List Described) : Type 0 where
   pub there : IsThere v name
-  pub are : (img : List ℕ) → told_bytes v.told name ≡ Some img → AllPaired (λ (at : List ℕ) (d : Described). IsDatasetIn img at d) names ds
+  pub are : (img : List ℕ) → told_bytes v.told name ≡ Some img → AllPaired (λ (at : List ℕ) (d : Described). IsDatasetIn by img at d) names ds
 
 -- if the file was there and valid for all names, by its bytes, and by the columns of each dataset and the values that it read as
 abbrev pub OfFile : List ℕ → List (List ℕ) → DiskView → (List ℕ → List Begun → Type 0) → Type 0
@@ -56,20 +57,20 @@ OfFile name names v P = (img : List ℕ) (t : AllSummary) (sets : List Begun) �
 -- ---- Why it is not opened
 
 -- in a file that may be missing
-abbrev pub TellsWhy : List (List ℕ) → Option (List ℕ) → ErrorLine → Type 0
-TellsWhy names None e = e ≡ errors.Missing
-TellsWhy names (Some img) e = (x : OpenError) × (open_line x ≡ e) × IsNotOpenedBy img (length img) names x
+abbrev pub TellsWhy : Beginning → List (List ℕ) → Option (List ℕ) → ErrorLine → Type 0
+TellsWhy by names None e = e ≡ errors.Missing
+TellsWhy by names (Some img) e = (x : OpenError) × (open_line x ≡ e) × IsNoneBegun by img (length img) names x
 
 -- The file is not opened, and everything stays as it was.
-pub record Unopened (name : List ℕ) (names : List (List ℕ)) (v w : DiskView) (e : ErrorLine) : Type 0 where
+pub record Unopened (by : Beginning) (name : List ℕ) (names : List (List ℕ)) (v w : DiskView) (e : ErrorLine) : Type 0 where
   pub disk : LeavesFiles v.told v w
-  pub exact : IfSome v.told (λ d. IsFree e ⊎ TellsWhy names (file d name) e)
+  pub exact : IfSome v.told (λ d. IsFree e ⊎ TellsWhy by names (file d name) e)
   pub kinds : IsOfOpen e
   pub cause : e ≡ errors.Disk → Rose v.faults w.faults
 
 -- Nothing is read of the input.
-pub record TellsNone (name : List ℕ) (names : List (List ℕ)) (s t : SourceView) (v w : DiskView) (e : ErrorLine) (front last : List ℕ) : Type 0 where
-  pub unopened : Unopened name names v w e
+pub record TellsNone (by : Beginning) (name : List ℕ) (names : List (List ℕ)) (s t : SourceView) (v w : DiskView) (e : ErrorLine) (front last : List ℕ) : Type 0 where
+  pub unopened : Unopened by name names v w e
   pub unread : t ≡ s
   pub front_is : front ≡ []
   pub last_is : last ≡ error_text e
@@ -132,19 +133,19 @@ pub record Holds (Flushed : List ℤ → Batches → List ℤ → Type 0) (name 
   pub valid : AllValid bytes names summary
   pub reads : EachReads Flushed bytes names sets b.sets
 
--- the superblock is the one that the file had, but for its end, and no flag of a writer was or is set
-abbrev pub ShutAgain : List ℕ → DiskView → DiskView → Type 0
-ShutAgain name v w = (img : List ℕ) (root : Super) → told_bytes v.told name ≡ Some img → super_at (range img 0 48) ≡ Ok root → (root.flags % 2 ≡ 0) × (root.flags / 4 % 2 ≡ 0) × IsShut name root w
+-- no flag of a writer is set: an opened file has the superblock that it had, but for its end, one that was taken over has lost both flags
+abbrev pub ShutAgain : Beginning → List ℕ → DiskView → DiskView → Type 0
+ShutAgain by name v w = (img : List ℕ) (root : Super) → told_bytes v.told name ≡ Some img → super_at (range img 0 48) ≡ Ok root → HadFlags by root.flags × IsShut name (shut_by by root) w
 
--- These batches were stored and the file was closed: it has the flags that it had, and if it was valid for all names it is so, and each dataset reads
+-- These batches were stored and the file was closed: no flag of a writer is set, and if it was valid for all names it is so, and each dataset reads
 -- as its values and those of its batches. The puts into it are the pieces of such a log. No other file is changed, and the disk did not fail.
-pub record IsClosed (name : List ℕ) (names : List (List ℕ)) (b : SetBatches) (v w : DiskView) : Type 0 where
+pub record IsClosed (by : Beginning) (name : List ℕ) (names : List (List ℕ)) (b : SetBatches) (v w : DiskView) : Type 0 where
   pub puts : List (Write × ℕ)
   pub disk : LeavesFiles (option_map (after_puts name puts) v.told) v w
   pub calm : w.faults ≡ v.faults
   pub holds : OfFile name names v (λ img sets. Holds Exactly name names w sets b)
   pub logs : OfFile name names v (λ img sets. AreLogsOver Exactly img names sets (writes_of puts) b)
-  pub shut : ShutAgain name v w
+  pub shut : ShutAgain by name v w
 
 -- The disk failed at a piece: the flags of a writer may be left. Of each dataset the values that waited may be stored, if the pieces were those of
 -- their flush.
@@ -246,30 +247,30 @@ abbrev pub all_batches : List Described → List SetLine → SetBatches
 all_batches ds said = close_each ds (after_all ds (no_sets ds) said)
 
 -- All was appended: each line says something, and the end of the input closes the last batch.
-pub record TellsWhole (name : List ℕ) (names : List (List ℕ)) (s t : SourceView) (v w : DiskView) (front last : List ℕ) : Type 0 where
+pub record TellsWhole (by : Beginning) (name : List ℕ) (names : List (List ℕ)) (s t : SourceView) (v w : DiskView) (front last : List ℕ) : Type 0 where
   pub ds : List Described
-  pub datasets : HasDatasets name names v ds
+  pub datasets : HasDatasets by name names v ds
   pub said : List SetLine
   pub read : SaysAll (columns_of ds) s t said
-  pub closed : IsClosed name names (all_batches ds said) v w
+  pub closed : IsClosed by name names (all_batches ds said) v w
   pub front_is : front ≡ told_text (all_batches ds said).told
   pub last_is : last ≡ closed_line (rows_with ds (all_batches ds said).sets)
 
 -- A refusal, behind which the file was closed: what waits for the end of its batch is dropped.
-pub record TellsSome (name : List ℕ) (names : List (List ℕ)) (limit : ℕ) (s t : SourceView) (v w : DiskView) (e : ErrorLine) (front last : List ℕ) : Type 0 where
+pub record TellsSome (by : Beginning) (name : List ℕ) (names : List (List ℕ)) (limit : ℕ) (s t : SourceView) (v w : DiskView) (e : ErrorLine) (front last : List ℕ) : Type 0 where
   pub ds : List Described
-  pub datasets : HasDatasets name names v ds
+  pub datasets : HasDatasets by name names v ds
   pub batches : SetBatches
   pub taken : AreTaken ds s t batches
   pub refused : IsWhy name names limit ds s t batches v e
-  pub closed : IsClosed name names batches v w
+  pub closed : IsClosed by name names batches v w
   pub front_is : front ≡ told_text batches.told
   pub last_is : last ≡ error_text e
 
 -- The disk failed behind these batches.
-pub record TellsUpTo (name : List ℕ) (names : List (List ℕ)) (s t : SourceView) (v w : DiskView) (front last : List ℕ) : Type 0 where
+pub record TellsUpTo (by : Beginning) (name : List ℕ) (names : List (List ℕ)) (s t : SourceView) (v w : DiskView) (front last : List ℕ) : Type 0 where
   pub ds : List Described
-  pub datasets : HasDatasets name names v ds
+  pub datasets : HasDatasets by name names v ds
   pub batches : SetBatches
   pub taken : AreTaken ds s t batches
   pub broken : IsBroken name names batches v w
@@ -277,21 +278,21 @@ pub record TellsUpTo (name : List ℕ) (names : List (List ℕ)) (s t : SourceVi
   pub last_is : last ≡ error_text errors.Disk
 
 -- an append by its answer and by what it writes: a line for each batch, and then a last line
-abbrev pub TellsTo : List ℕ → List (List ℕ) → (limit : ℕ) → SourceView → SourceView → DiskView → DiskView → Result (Unit {0}) ErrorLine → List ℕ → List ℕ → Type 0
-TellsTo name names limit s t v w (Ok a) front last = TellsWhole name names s t v w front last
-TellsTo name names limit s t v w (Err e) front last =
-    TellsNone name names s t v w e front last ⊎ (TellsSome name names limit s t v w e front last ⊎ ((e ≡ errors.Disk) × TellsUpTo name names s t v w front last))
+abbrev pub TellsTo : Beginning → List ℕ → List (List ℕ) → (limit : ℕ) → SourceView → SourceView → DiskView → DiskView → Result (Unit {0}) ErrorLine → List ℕ → List ℕ → Type 0
+TellsTo by name names limit s t v w (Ok a) front last = TellsWhole by name names s t v w front last
+TellsTo by name names limit s t v w (Err e) front last =
+    TellsNone by name names s t v w e front last ⊎ (TellsSome by name names limit s t v w e front last ⊎ ((e ≡ errors.Disk) × TellsUpTo by name names s t v w front last))
 
 -- The sink failed at the line of a batch: the file has that batch, those before it, and no more. It was closed, unless the disk failed at that.
-pub record TellsCut (name : List ℕ) (names : List (List ℕ)) (s t : SourceView) (v w : DiskView) (k l : SinkView) : Type 0 where
+pub record TellsCut (by : Beginning) (name : List ℕ) (names : List (List ℕ)) (s t : SourceView) (v w : DiskView) (k l : SinkView) : Type 0 where
   pub ds : List Described
-  pub datasets : HasDatasets name names v ds
+  pub datasets : HasDatasets by name names v ds
   pub batches : SetBatches
   pub taken : AreTaken ds s t batches
   pub stops : StopsAtLine batches k l
-  pub left : IsClosed name names batches v w ⊎ IsBroken name names batches v w
+  pub left : IsClosed by name names batches v w ⊎ IsBroken name names batches v w
 
 -- how an append ends: the lines of all its batches are written before the last line, or the sink fails at one of them
-abbrev pub SeveralTells : List ℕ → List (List ℕ) → (limit : ℕ) → SourceView → SourceView → DiskView → DiskView → Status → SinkView → SinkView → Type 0
-SeveralTells name names limit s t v w status k l =
-    EndsBehind {A = Unit {0}} (TellsTo name names limit s t v w) status k l ⊎ ((status ≡ statuses.Sink) × TellsCut name names s t v w k l)
+abbrev pub SeveralTells : Beginning → List ℕ → List (List ℕ) → (limit : ℕ) → SourceView → SourceView → DiskView → DiskView → Status → SinkView → SinkView → Type 0
+SeveralTells by name names limit s t v w status k l =
+    EndsBehind {A = Unit {0}} (TellsTo by name names limit s t v w) status k l ⊎ ((status ≡ statuses.Sink) × TellsCut by name names s t v w k l)

@@ -17,6 +17,7 @@ use h5w_batches::INPUT_LIMIT;
 use h5w_image::Disk;
 use h5w_input::{Intake, Lines, Next};
 use h5w_names::Names;
+use h5w_several_open::Beginning;
 use h5w_several_session::SeveralWriter;
 use h5w_text::{ErrorLine, Sink, Source, Status, say, tell, write_numbers};
 use std::alloc::Global;
@@ -103,7 +104,7 @@ fn take_source<S: Source, K: Sink, D: Disk>(
     )
 }
 
-/// Says in the file that it is written, and appends the lines of the source. `text` gets the last line of all.
+/// Puts what is pending, by which an opened file says that it is written, and appends the lines of the source. `text` gets the last line of all.
 fn take_all<S: Source, K: Sink, D: Disk>(
     alloc: Global,
     session: &mut SeveralWriter,
@@ -181,9 +182,10 @@ fn settle<D: Disk>(
     }
 }
 
-/// Opens the file, appends the lines of the source, and closes the session. `text` gets the last line of all.
+/// Begins over the file, appends the lines of the source, and closes the session. `text` gets the last line of all.
 fn append_all<S: Source, K: Sink, D: Disk>(
     alloc: Global,
+    by: Beginning,
     file: &str,
     names: &Names,
     limit: u64,
@@ -200,11 +202,11 @@ fn append_all<S: Source, K: Sink, D: Disk>(
     requires low { 1024 ≤ limit }
     requires high { limit ≤ 2 ^ 40 }
     requires budget { (1024 ≤ budget) × (budget ≤ 2 ^ 30) }
-    ensures finishes { FinishesBy file.now names.now limit (S.view source.old) (S.view source.new) (D.view disk.old) (D.view disk.new) (K.view sink.old) (K.view sink.new) text.new.items result }
+    ensures finishes { FinishesBy by file.now names.now limit (S.view source.old) (S.view source.new) (D.view disk.old) (D.view disk.new) (K.view sink.old) (K.view sink.new) text.new.items result }
     ensures source { SameSource (S.view source.old) (S.view source.new) }
 {
     let faults = disk.faults();
-    let mut session = match open(alloc, file, names, limit, budget, keeps, disk) {
+    let mut session = match open(alloc, by, file, names, limit, budget, keeps, disk) {
         Ok(session) => session,
         Err(error) => return Err(Ending::Refused(error)),
     };
@@ -220,8 +222,12 @@ fn append_all<S: Source, K: Sink, D: Disk>(
 /// visible, dataset after dataset, and how many rows each has then is written. Of each dataset at most `budget` bytes may wait; a line with which
 /// more would is refused, as for want of memory. Where `keeps` is set no place that is let go is used again. After a refusal what was not closed
 /// is dropped, and nobody writes the file.
+///
+/// The file is opened, or taken over where another session left it: that begins with the rows that were flushed, and nobody else may write the
+/// file from then on.
 pub fn append<S: Source, K: Sink, D: Disk>(
     alloc: Global,
+    by: Beginning,
     file: &str,
     names: &Names,
     limit: u64,
@@ -237,12 +243,12 @@ pub fn append<S: Source, K: Sink, D: Disk>(
     requires low { 1024 ≤ limit }
     requires high { limit ≤ 2 ^ 40 }
     requires budget { (1024 ≤ budget) × (budget ≤ 2 ^ 30) }
-    ensures tells { SeveralTells file.now names.now limit (S.view source.old) (S.view source.new) (D.view disk.old) (D.view disk.new) result (K.view sink.old) (K.view sink.new) }
+    ensures tells { SeveralTells by file.now names.now limit (S.view source.old) (S.view source.new) (D.view disk.old) (D.view disk.new) result (K.view sink.old) (K.view sink.new) }
     ensures source { SameSource (S.view source.old) (S.view source.new) }
 {
     let mut text = Vec::new(alloc);
     match append_all(
-        alloc, file, names, limit, budget, keeps, &mut text, source, sink, disk,
+        alloc, by, file, names, limit, budget, keeps, &mut text, source, sink, disk,
     ) {
         Ok(()) => say(&text, Status::Done, sink),
         Err(Ending::Refused(error)) => tell(alloc, &error, sink),

@@ -1,4 +1,4 @@
-//! A file is opened by several names to append to it.
+//! A session begins over a file by several names, to append to it.
 ghost use Rattle.std.specs.Prelude.{◌≡◌, ◌≤◌, ◌+◌, ◌^◌, false, length};
 ghost use Rattle.std.specs.List.{All};
 ghost use Rattle.h5w_image.specs.View.{IsThere};
@@ -12,14 +12,16 @@ ghost use Rattle.h5w_several_appending.specs.Appending.{IsKept, LooksOpen, Opens
 use h5w_files::DiskImage;
 use h5w_image::Disk;
 use h5w_names::Names;
+use h5w_several_open::{Beginning, begin_all};
 use h5w_several_session::SeveralWriter;
 use h5w_text::ErrorLine;
 use h5w_writer_lines::open_line;
 use std::alloc::Global;
 
-/// Looks at a file of this size, and opens it.
+/// Looks at a file of this size, and begins a session over it.
 fn look_open<D: Disk>(
     alloc: Global,
+    by: Beginning,
     file: &str,
     size: u64,
     names: &Names,
@@ -36,10 +38,10 @@ fn look_open<D: Disk>(
     requires high { limit ≤ 2 ^ 40 }
     requires budget { (1024 ≤ budget) × (budget ≤ 2 ^ 30) }
     ensures disk { LeavesFiles (D.view disk.old).told (D.view disk.old) (D.view disk.new) }
-    ensures opens { LooksOpen file.now names.now limit budget (D.view disk.old) (D.view disk.new) result }
+    ensures opens { LooksOpen by file.now names.now limit budget (D.view disk.old) (D.view disk.new) result }
 {
     let mut image = DiskImage { disk, name: file };
-    match h5w_several_open::open(alloc, &mut image, size, names, limit, budget) {
+    match begin_all(alloc, by, &mut image, size, names, limit, budget) {
         Ok(session) => Ok(session),
         Err(error) => Err(open_line(error)),
     }
@@ -57,9 +59,10 @@ fn retire(session: &mut SeveralWriter, keeps: bool)
     }
 }
 
-/// Opens the file, with room for the pending piece and the one that closes the session.
+/// Begins a session over the file, with room for what is pending and the piece that closes the session.
 pub fn open<D: Disk>(
     alloc: Global,
+    by: Beginning,
     file: &str,
     names: &Names,
     limit: u64,
@@ -73,14 +76,14 @@ pub fn open<D: Disk>(
     requires low { 1024 ≤ limit }
     requires high { limit ≤ 2 ^ 40 }
     requires budget { (1024 ≤ budget) × (budget ≤ 2 ^ 30) }
-    ensures { OpensBy file.now names.now limit (D.view disk.old) (D.view disk.new) result }
+    ensures { OpensBy by file.now names.now limit (D.view disk.old) (D.view disk.new) result }
 {
     let size = match disk.size(file) {
         Ok(Some(size)) => size,
         Ok(None) => return Err(ErrorLine::Missing),
         Err(_) => return Err(ErrorLine::Disk),
     };
-    let mut session = match look_open(alloc, file, size, names, limit, budget, disk) {
+    let mut session = match look_open(alloc, by, file, size, names, limit, budget, disk) {
         Ok(session) => session,
         Err(error) => return Err(error),
     };

@@ -1,6 +1,5 @@
 -- What a file that is valid for several names has of each of them.
 use Rattle.std.proofs.Common.{◌≡◌, ℕ, List, [], ◌∷◌, ◌++◌, length, Result, Ok, refl, sym, ◌∙◌, ap, subst, inl, inr}
-use Rattle.std.specs.Prelude.{flat_map}
 use Rattle.std.specs.List.{AllByRecursion}
 use Rattle.h5w_model.specs.Numbers.{range}
 use Rattle.h5w_model.specs.Programs.{ret, eval, and_then}
@@ -12,7 +11,7 @@ use Rattle.h5w_model.specs.declared.root.Super.{Super}
 use Rattle.h5w_laws.specs.Ranges.{AreApart as IsApartFrom, AllApart as NoneMeet}
 use Rattle.h5w_laws.proofs.AnswerLemmas.{same_ok}
 use Rattle.h5w_laws.proofs.ResultLemmas.{and_then_from}
-use Rattle.h5w_laws.proofs.SeveralLemmas.{all_ranges}
+use Rattle.h5w_laws.proofs.SeveralLemmas.{all_ranges, flat_ranges}
 use Rattle.h5w_visits.specs.Ranges.{Among, AreApart as IsOffRange}
 use Rattle.h5w_visits.proofs.RangeLemmas.{among_left, among_right}
 use Rattle.h5w_visits.proofs.HeaderVisits.{ranges_ok, used_blocks, used_of}
@@ -52,17 +51,14 @@ parted (x ∷ us) vs h = off (parted us vs h.1)
       rest.1,
     )
 
-abbrev flat : List Part → List Used
-flat ps = flat_map (λ (p : Part). p.ranges) ps
-
-off_each : (us : List Used) (ps : List Part) → OffAll us (flat ps) → IsOffEach us ps
+off_each : (us : List Used) (ps : List Part) → OffAll us (flat_ranges ps) → IsOffEach us ps
 off_each us [] off = tt
-off_each us (p ∷ ps) off = ((λ u v a b. off u v a (among_left v p.ranges (flat ps) b)), off_each us ps (λ u v a b. off u v a (among_right v p.ranges (flat ps) b)))
+off_each us (p ∷ ps) off = ((λ u v a b. off u v a (among_left v p.ranges (flat_ranges ps) b)), off_each us ps (λ u v a b. off u v a (among_right v p.ranges (flat_ranges ps) b)))
 
-each_off : (ps : List Part) → NoneMeet (flat ps) → AreOffEach ps
+each_off : (ps : List Part) → NoneMeet (flat_ranges ps) → AreOffEach ps
 each_off [] h = tt
 each_off (p ∷ ps) h =
-    let r = parted p.ranges (flat ps) h in
+    let r = parted p.ranges (flat_ranges ps) h in
     (off_each p.ranges ps r.0, each_off ps r.1)
 
 -- ---- A moment of one dataset
@@ -122,7 +118,7 @@ all_have img names t valid =
       blocks = λ u a. used_blocks h.root.ranges u (subst (λ (us : List Used). Among u us) (root_used img names t h) a);
       parts = h.parts;
       each = paired_as (IsPart format_limits img h.superblock h.root.messages) (HasMoments h.superblock h.root_ranges img) names h.parts (moment_of img names t h) h.linked_to;
-      off = each_off h.parts (parted h.root_ranges (flat h.parts) apart.1).1;
+      off = each_off h.parts (parted h.root_ranges (flat_ranges h.parts) apart.1).1;
     }
 
 -- ---- Sessions over it

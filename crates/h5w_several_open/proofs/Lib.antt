@@ -6,3 +6,5 @@ pub mod SessionLemmas
 pub mod BegunLemmas
 pub mod TakeAnswers
 pub mod TakenLemmas
+pub mod AloneLemmas
+pub mod BeginningLemmas

@@ -26,6 +26,7 @@ use Rattle.h5w_index.specs.declared.index.Index.{Index as HeldIndex}
 use Rattle.h5w_opening.specs.Views.{opened_of}
 use Rattle.h5w_opening.specs.declared.finding.Opening.{Opening}
 use Rattle.h5w_space.specs.Space.{Space}
+use Rattle.h5w_laws.proofs.LinkLemmas.{IsLinked}
 use Rattle.h5w_opening.specs.Errors.{IsOpenKind, refusal_of}
 use Rattle.h5w_opening.specs.Fronts.{FrontFields, front_by, front_for, places_by, places_found, unlike}
 use Rattle.h5w_opening.specs.Openings.{Opened, closed_super, dataset_found, looked_for, place_found, super_by, super_found}
@@ -72,9 +73,6 @@ sessions_more img root limit budget n p s _ _ _ x no_session = a_session n p s [
 sessions_more img root limit budget n p s _ _ _ x (a_session m q t names places ss y rest) = a_session m q t (names ++ n ∷ []) (places ++ p ∷ []) (ss ++ s ∷ []) y (sessions_more img root limit budget n p s names places ss x rest)
 
 -- ---- What the front tells of each name
-
-abbrev pub IsLinked : List FoundMessage → List ℕ → ℕ → Type 0
-IsLinked ms name place = linked name ms ≡ Ok place
 
 abbrev as_places : List ℕ → Result (List ℕ) ReadError
 as_places ps = Ok ps

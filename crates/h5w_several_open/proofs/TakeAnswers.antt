@@ -12,12 +12,13 @@ use Rattle.h5w_model.specs.declared.root.Super.{Super}
 use Rattle.h5w_model.proofs.SuperLemmas.{super_either}
 use Rattle.h5w_laws.proofs.ResultLemmas.{fails, refused_ok, then_ok}
 use Rattle.h5w_space.specs.Space.{Space}
+use Rattle.h5w_laws.proofs.LinkLemmas.{IsLinked}
 use Rattle.h5w_found.specs.Ran.{Refuses}
 use Rattle.h5w_found.specs.Walks.{root_header_for}
 use Rattle.h5w_found.proofs.RanLemmas.{same_value, step_ok}
 use Rattle.h5w_opening.specs.Errors.{refusal_of}
 use Rattle.h5w_opening.specs.Fronts.{written_front}
-use Rattle.h5w_opening.specs.Openings.{Opened, dataset_found, is_written, place_found, refused_dataset, written_super}
+use Rattle.h5w_opening.specs.Openings.{Opened, dataset_found, is_written, place_found, refused_dataset, super_by, written_super}
 use Rattle.h5w_opening.specs.declared.error.OpenError.{OpenError}
 use Rattle.h5w_opening.specs.declared.error.OpenError.TheVariants.{Read, Version, Flags, Cut}
 use Rattle.h5w_session.specs.Sessions.{Session, cleared}
@@ -36,7 +37,7 @@ use Rattle.h5w_several_open.specs.Progress.{ArePartsAnswer, AreSessionsAt, IsRef
 use Rattle.h5w_several_open.specs.Stands.{opened_file}
 use Rattle.h5w_several_open.specs.Taken.{HasDatasetOf, HasTakenAll, IsNotTakenBy, IsTakenAll, closed_front, no_front, unfit, unread}
 use Rattle.h5w_several_open.proofs.BegunLemmas.{rested_begin}
-use Rattle.h5w_several_open.proofs.OpenLemmas.{IsLinked, fronts_tell}
+use Rattle.h5w_several_open.proofs.OpenLemmas.{fronts_tell}
 use Rattle.h5w_several_open.proofs.StandLemmas.{none_rested}
 
 -- ---- The front
@@ -57,10 +58,15 @@ negated : (b : Bool) → not b ≡ false → b ≡ true
 negated true e = refl
 negated false e = absurd cc
 
-pub written_tells : (img : List ℕ) (size : ℕ) (root : Super) (names : List (List ℕ)) (places : List ℕ) → eval img (written_front size names) ≡ Ok (record { root = root; places = places }) → IsWrittenFront img size root names places
-written_tells img size root names places is =
-    let f = fronts_tell (written_super size) img root names places is in
-    let t = then_ok (refused_as Read (refused_as super_refusal (super_at (range img 0 48)))) (written_super size) root f.super in
+-- what is known of the superblock of a file that was left
+pub record IsWrittenSuper (img : List ℕ) (s : Super) : Type 0 where
+  pub super : super_at (range img 0 48) ≡ Ok s
+  pub version : s.version ≡ 3
+  pub written : is_written s.flags ≡ true
+
+pub super_written : (img : List ℕ) (size : ℕ) (root : Super) → super_by (written_super size) img ≡ Ok root → IsWrittenSuper img root
+super_written img size root h =
+    let t = then_ok (refused_as Read (refused_as super_refusal (super_at (range img 0 48)))) (written_super size) root h in
     let read = refused_ok super_refusal (super_at (range img 0 48)) t.0 (refused_ok Read (refused_as super_refusal (super_at (range img 0 48))) t.0 t.1) in
     let new = fails (t.0.version == 2) (cond (not (is_written t.0.flags)) (Err (Flags t.0.flags)) (cond (nat_lt size t.0.end) (Err (Cut t.0.end size)) (as_super t.0))) (Version 2) root t.2 in
     let both = fails (not (is_written t.0.flags)) (cond (nat_lt size t.0.end) (Err (Cut t.0.end size)) (as_super t.0)) (Flags t.0.flags) root new.1 in
@@ -70,10 +76,16 @@ written_tells img size root names places is =
       | inl two ↦ absurd (eqb-false t.0.version 2 new.0 two)
       | inr three ↦ three
     ] in
+    subst (IsWrittenSuper img) same (record { super = read; version = version; written = negated (is_written t.0.flags) both.0 })
+
+pub written_tells : (img : List ℕ) (size : ℕ) (root : Super) (names : List (List ℕ)) (places : List ℕ) → eval img (written_front size names) ≡ Ok (record { root = root; places = places }) → IsWrittenFront img size root names places
+written_tells img size root names places is =
+    let f = fronts_tell (written_super size) img root names places is in
+    let s = super_written img size root f.super in
     record {
-      super = subst (λ (s : Super). super_at (range img 0 48) ≡ Ok s) same read;
-      version = subst (λ (s : Super). s.version ≡ 3) same version;
-      written = subst (λ (s : Super). is_written s.flags ≡ true) same (negated (is_written t.0.flags) both.0);
+      super = s.super;
+      version = s.version;
+      written = s.written;
       header = f.header;
       read = f.read;
       each = f.each;
@@ -104,13 +116,17 @@ both_flags true true e = (refl, refl)
 both_flags true false e = absurd cc
 both_flags false b e = absurd cc
 
+-- both bits are set
+pub written_bits : (flags : ℕ) → is_written flags ≡ true → (flags % 2 ≡ 1) × (flags / 4 % 2 ≡ 1)
+written_bits flags written = let both = both_flags (flags % 2 == 1) (flags / 4 % 2 == 1) written in (eqb-true (flags % 2) 1 both.0, eqb-true (flags / 4 % 2) 1 both.1)
+
 -- a writer's flags are those that the file had
 flags_again : (flags : ℕ) → is_written flags ≡ true → writing_flags (cleared flags) ≡ flags
-flags_again flags written =
-    let both = both_flags (flags % 2 == 1) (flags / 4 % 2 == 1) written in
-    let low : flags % 2 ≡ 1 = eqb-true (flags % 2) 1 both.0 in
-    let high : flags / 4 % 2 ≡ 1 = eqb-true (flags / 4 % 2) 1 both.1 in
-    omega (arith, low, high)
+flags_again flags written = let bits = written_bits flags written in omega (arith, bits.0, bits.1)
+
+-- so the superblock with which a session begins is the file's
+pub writing_again : (root : Super) → root.version ≡ 3 → is_written root.flags ≡ true → ◌≡◌ {A = Super} (record root { version = 3; flags = writing_flags (cleared root.flags) }) root
+writing_again root version written = λ i. record root { version = sym version i; flags = flags_again root.flags written i }
 
 -- the superblock of all is the file's
 root_again : (img : List ℕ) (limit budget : ℕ) (front root : Super) (names : List (List ℕ)) (places : List ℕ) (ss : List Session) → 1 ≤ length ss → AreSessionsAt img (closed_front front) limit budget names places ss
@@ -119,7 +135,7 @@ root_again img limit budget front root _ _ _ some no_session h version written =
 root_again img limit budget front root _ _ _ some (a_session name place s names places ss x rest) h version written =
     let w : HasBegunWith limit budget root name s = h.0 in
     sym w.root_is ∙ ap (λ (y : Session). y.root) x.over.session ∙ ap (λ (o : Opened). let r : Super = record (o.root) { version = 3; flags = writing_flags o.root.flags } in r) x.read.is
-    ∙ (λ i. record front { version = sym version i; flags = flags_again front.flags written i })
+    ∙ writing_again front version written
 
 -- the dataset of a part at rest
 dataset_of : (img : List ℕ) (root : Super) (limit budget : ℕ) (t : Space) (h : HeaderFields) (name : List ℕ) (place : ℕ) (s : Session) → eval img (root_header_for true root.root) ≡ Ok h → linked name h.messages ≡ Ok place → IsSessionAt img (closed_front root) limit budget name place s

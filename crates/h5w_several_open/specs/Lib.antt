@@ -8,3 +8,4 @@ pub mod Begins
 pub mod Sessions
 pub mod Stands
 pub mod Taken
+pub mod Beginnings

@@ -24,7 +24,7 @@ use h5w_several_session::SeveralWriter;
 use std::alloc::Global;
 
 /// The superblock with the flags of a file that nobody writes.
-fn closed_front(root: Super) -> Super
+pub(crate) fn closed_front(root: Super) -> Super
     ensures closed { result ≡ closed_front root }
     ensures flags { is_open result.flags ≡ false }
 {

@@ -71,6 +71,8 @@ pub enum Job {
         budget: u64,
         /// Whether places that the session lets go are kept, and none of them is used again.
         keeps: bool,
+        /// Whether the file is taken over, which another session left open.
+        takes: bool,
     },
     /// Runs a writer of the input's batches and readers that poll beside it, in threads.
     Live {

@@ -15,7 +15,7 @@ use clap::ArgMatches;
 const LIMIT: u64 = 1 << 40;
 
 /// The most bytes that may wait unwritten, and how many may where it is not said.
-const MOST_WAITING: u64 = 1 << 30;
+pub const MOST_WAITING: u64 = 1 << 30;
 
 const BUDGET: u64 = 65_536;
 

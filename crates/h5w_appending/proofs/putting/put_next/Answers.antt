@@ -1,5 +1,6 @@
 use Rattle.std.proofs.Common.{drop}
-use Rattle.h5w_appending.proofs.PutLemmas.{oldest, one_less, puts_failed, puts_one}
+use Rattle.h5w_session.proofs.StateLemmas.{oldest}
+use Rattle.h5w_appending.proofs.PutLemmas.{one_less, puts_failed, puts_one}
 use Rattle.h5w_appending.proofs.putting.put_next.Goals as goal
 
 pub returns-in-Ok-clause-puts : goal.returns-in-Ok-clause-puts

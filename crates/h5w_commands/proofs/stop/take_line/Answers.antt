@@ -3,7 +3,7 @@ use Rattle.h5w_input.specs.Scripts.{script_line_of}
 use Rattle.h5w_input.specs.Words.{line_of_script}
 use Rattle.h5w_input.specs.declared.line.TextLine.TheVariants.{Whole}
 use Rattle.h5w_core.specs.Worlds.{rules_of}
-use Rattle.h5w_commands.proofs.RangeLemmas.{in_range}
+use Rattle.h5w_playing.proofs.RangeLemmas.{in_range}
 use Rattle.h5w_commands.proofs.TakingLemmas.{long_line, outside_line, refused_line, taken_line}
 use Rattle.h5w_commands.proofs.stop.take_line.Goals as goal
 

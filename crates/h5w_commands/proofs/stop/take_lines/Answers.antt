@@ -4,7 +4,9 @@ use Rattle.h5w_input.specs.LinesAhead.{lines_ahead}
 use Rattle.h5w_text.specs.declared.error.ErrorLine.{ErrorLine}
 use Rattle.h5w_batches.specs.Inputs.{outside}
 use Rattle.h5w_commands.specs.Stops.{StopRefuses}
-use Rattle.h5w_commands.proofs.TakingLemmas.{ended_at_next, ended_at_source, ended_whole, goes_first, last_done, last_refused, refused_is, source_stays, stays_itself, stays_twice, whole_more}
+use Rattle.h5w_commands.proofs.TakingLemmas.{ended_at_next, ended_at_source, ended_whole, goes_first, last_done, last_refused, refused_is, whole_more}
+use Rattle.h5w_input.proofs.LineLemmas.{stays_itself, stays_twice}
+use Rattle.h5w_playing.proofs.PlayLemmas.{source_stays}
 use Rattle.h5w_commands.proofs.stop.take_lines.Goals as goal
 
 pub loop-line-init : goal.loop-line-init

@@ -1,5 +1,0 @@
-use Rattle.h5w_commands.proofs.ShowLemmas.{Shown}
-use Rattle.h5w_commands.proofs.answer.show.Given as goal
-
-abbrev pub invariant-loop : goal.invariant-loop
-invariant-loop l = Shown l.fn.world l.world l.counter
