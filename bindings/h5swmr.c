@@ -24,13 +24,20 @@
 /* The room for the program's line of a refusal: none has so many bytes. */
 #define LINE 256
 
+/* The most names of a writer, and bytes of a name. */
+#define NAMES 8
+#define NAME 512
+
 struct h5swmr_reader {
     h5w_reader core;
     int fd;
 };
 
+/* A writer of one dataset, or of several: the other core is not open. */
 struct h5swmr_writer {
     h5w_writer core;
+    h5w_several several;
+    bool is_several;
     int fd;
 };
 
@@ -119,18 +126,41 @@ static h5w_told drive(h5swmr_reader *reader, h5w_told told)
     return told;
 }
 
+/* The oldest pending piece. */
+static bool next_piece(h5swmr_writer *writer, uint8_t *bytes, h5w_place *place)
+{
+    return writer->is_several ? h5w_several_next(&writer->several, bytes, H5W_PIECE, place) : h5w_writer_next(&writer->core, bytes, H5W_PIECE, place);
+}
+
+/* It was written, or could not be. */
+static void is_written(h5swmr_writer *writer)
+{
+    if (writer->is_several)
+        h5w_several_written(&writer->several);
+    else
+        h5w_writer_written(&writer->core);
+}
+
+static void has_failed(h5swmr_writer *writer)
+{
+    if (writer->is_several)
+        h5w_several_failed(&writer->several);
+    else
+        h5w_writer_failed(&writer->core);
+}
+
 /* Writes all pending pieces, in their order. */
 static h5w_told put_all(h5swmr_writer *writer)
 {
     uint8_t bytes[H5W_PIECE];
     h5w_place place;
-    while (h5w_writer_next(&writer->core, bytes, sizeof bytes, &place)) {
+    while (next_piece(writer, bytes, &place)) {
         int error = put(writer->fd, place, bytes);
         if (error) {
-            h5w_writer_failed(&writer->core);
+            has_failed(writer);
             return failure(error, place.at);
         }
-        h5w_writer_written(&writer->core);
+        is_written(writer);
     }
     return tell(H5W_OK, 0, 0);
 }
@@ -156,13 +186,11 @@ static bool has_passed(struct timespec since)
     return (int64_t)(now.tv_sec - since.tv_sec) * 1000000000 + (now.tv_nsec - since.tv_nsec) >= SPAN;
 }
 
-/* The answer of an open or refresh that came to `told`: as long as it is doubtful the call is begun again. */
-static h5w_told settle(h5swmr_reader *reader, h5w_told told)
+/* The answer of an open or refresh that came to `told`, which is doubtful: the call is begun again as long as it is. */
+static h5w_told begin_again(h5swmr_reader *reader, h5w_told told)
 {
     struct timespec rest = { 0, REST }, since;
     h5w_told first = told;
-    if (!is_doubtful(told))
-        return told;
     clock_gettime(CLOCK_MONOTONIC, &since);
     for (int tries = 1, same = 1; tries < MOST && !(same >= TRIES && has_passed(since)); tries++) {
         if (tries >= BRISK)
@@ -177,6 +205,12 @@ static h5w_told settle(h5swmr_reader *reader, h5w_told told)
         }
     }
     return told;
+}
+
+/* The answer of an open or refresh that came to `told`. */
+static h5w_told settle(h5swmr_reader *reader, h5w_told told)
+{
+    return is_doubtful(told) ? begin_again(reader, told) : told;
 }
 
 /* The answer of a call, whose line is kept if it has one. */
@@ -282,10 +316,36 @@ h5w_told h5swmr_close_reader(h5swmr_reader **reader)
 
 /* ---- Writers */
 
+/* Names as the cores take them. */
+struct names {
+    uint8_t bytes[NAMES * NAME];
+    uint64_t lens[NAMES];
+    size_t size, count;
+};
+
+/* Joins names; false if there are too many, one is too long, or a pointer is NULL. */
+static bool join(struct names *all, const char *const *names, size_t count)
+{
+    all->size = 0;
+    all->count = count;
+    if (count > NAMES || (count && !names))
+        return false;
+    for (size_t k = 0; k < count; k++) {
+        size_t len = names[k] ? strlen(names[k]) : NAME + 1;
+        if (len > NAME)
+            return false;
+        memcpy(all->bytes + all->size, names[k], len);
+        all->size += len;
+        all->lens[k] = len;
+    }
+    return true;
+}
+
 /* Frees a writer, whatever it is at; what went wrong before, or at the close of its file. */
 static h5w_told drop_writer(h5swmr_writer *writer, h5w_told told)
 {
     h5w_writer_free(&writer->core);
+    h5w_several_free(&writer->several);
     if (writer->fd >= 0 && close(writer->fd) && errno != EINTR && told.code == H5W_OK)
         told = failure(errno, 0);
     free(writer);
@@ -300,19 +360,23 @@ static h5w_told begun(h5swmr_writer **out, h5swmr_writer *writer, h5w_told told)
     if (told.code != H5W_OK)
         return drop_writer(writer, told);
     *out = writer;
-    return tell(H5W_OK, 0, h5w_writer_rows(&writer->core));
+    return tell(H5W_OK, 0, h5swmr_appended(writer));
 }
 
-h5w_told h5swmr_create(h5swmr_writer **out, const char *path, const char *name, const h5w_options *options)
+/* A writer with neither session nor file. */
+static h5swmr_writer *new_writer(bool is_several)
 {
-    if (!out || !path || !name || !options)
-        return misuse();
-    *out = NULL;
     h5swmr_writer *writer = calloc(1, sizeof *writer);
-    if (!writer)
-        return tell(H5W_MEMORY, 0, 0);
-    writer->fd = -1;
-    h5w_told told = h5w_writer_create(&writer->core, (const uint8_t *)name, strlen(name), options);
+    if (writer) {
+        writer->is_several = is_several;
+        writer->fd = -1;
+    }
+    return writer;
+}
+
+/* Makes the file of a session that creates one. */
+static h5w_told make(h5swmr_writer **out, h5swmr_writer *writer, const char *path, h5w_told told)
+{
     if (told.code == H5W_OK) {
         writer->fd = open(path, O_RDWR | O_CREAT | O_EXCL | O_CLOEXEC, 0666);
         if (writer->fd < 0)
@@ -321,8 +385,52 @@ h5w_told h5swmr_create(h5swmr_writer **out, const char *path, const char *name, 
     return begun(out, writer, told);
 }
 
+h5w_told h5swmr_create(h5swmr_writer **out, const char *path, const char *name, const h5w_options *options)
+{
+    if (!out || !path || !name || !options)
+        return misuse();
+    *out = NULL;
+    h5swmr_writer *writer = new_writer(false);
+    if (!writer)
+        return tell(H5W_MEMORY, 0, 0);
+    return make(out, writer, path, h5w_writer_create(&writer->core, (const uint8_t *)name, strlen(name), options));
+}
+
+h5w_told h5swmr_create_several(h5swmr_writer **out, const char *path, const char *const *names, size_t count, const h5w_options *options)
+{
+    struct names all;
+    if (!out || !path || !options)
+        return misuse();
+    *out = NULL;
+    if (!join(&all, names, count))
+        return misuse();
+    h5swmr_writer *writer = new_writer(true);
+    if (!writer)
+        return tell(H5W_MEMORY, 0, 0);
+    return make(out, writer, path, h5w_several_create(&writer->several, all.bytes, all.size, all.lens, all.count, options));
+}
+
+/* How a file is opened: by one name, or else by several, and then perhaps taken over. */
+struct opening {
+    const char *name;
+    const struct names *all;
+    bool takes;
+    uint64_t limit, budget;
+};
+
+/* Opens the session over these bytes. */
+static h5w_told open_core(h5swmr_writer *writer, const struct opening *how, const uint8_t *bytes, size_t size, uint8_t *text)
+{
+    const struct names *all = how->all;
+    if (how->name)
+        return h5w_writer_open(&writer->core, bytes, size, (const uint8_t *)how->name, strlen(how->name), how->limit, how->budget, text, LINE);
+    if (how->takes)
+        return h5w_several_take_over(&writer->several, bytes, size, all->bytes, all->size, all->lens, all->count, how->limit, how->budget, text, LINE);
+    return h5w_several_open(&writer->several, bytes, size, all->bytes, all->size, all->lens, all->count, how->limit, how->budget, text, LINE);
+}
+
 /* Opens the session over the bytes of its file. */
-static h5w_told open_over(h5swmr_writer *writer, const char *name, uint64_t limit, uint64_t budget)
+static h5w_told open_over(h5swmr_writer *writer, const struct opening *how)
 {
     struct stat about;
     uint8_t text[LINE] = { 0 };
@@ -330,10 +438,10 @@ static h5w_told open_over(h5swmr_writer *writer, const char *name, uint64_t limi
         return failure(errno, 0);
     size_t size = (size_t)about.st_size;
     /* (a file without bytes cannot be mapped) */
-    void *bytes = size ? mmap(NULL, size, PROT_READ, MAP_SHARED, writer->fd, 0) : (void *)name;
+    void *bytes = size ? mmap(NULL, size, PROT_READ, MAP_SHARED, writer->fd, 0) : text;
     if (bytes == MAP_FAILED)
         return failure(errno, 0);
-    h5w_told told = h5w_writer_open(&writer->core, bytes, size, (const uint8_t *)name, strlen(name), limit, budget, text, sizeof text);
+    h5w_told told = open_core(writer, how, bytes, size, text);
     if (size)
         munmap(bytes, size);
     if (told.code == H5W_REFUSED || told.code == H5W_OPENED)
@@ -341,21 +449,51 @@ static h5w_told open_over(h5swmr_writer *writer, const char *name, uint64_t limi
     return told;
 }
 
-h5w_told h5swmr_append_to(h5swmr_writer **out, const char *path, const char *name, uint64_t limit, uint64_t budget)
+/* Opens a file, and hands out its writer. */
+static h5w_told open_file(h5swmr_writer **out, const char *path, const struct opening *how)
 {
-    if (!out || !path || !name)
-        return misuse();
-    *out = NULL;
-    h5swmr_writer *writer = calloc(1, sizeof *writer);
+    h5swmr_writer *writer = new_writer(!how->name);
     if (!writer)
         return tell(H5W_MEMORY, 0, 0);
     writer->fd = open(path, O_RDWR | O_CLOEXEC);
-    return begun(out, writer, writer->fd < 0 ? failure(errno, 0) : open_over(writer, name, limit, budget));
+    return begun(out, writer, writer->fd < 0 ? failure(errno, 0) : open_over(writer, how));
+}
+
+h5w_told h5swmr_append_to(h5swmr_writer **out, const char *path, const char *name, uint64_t limit, uint64_t budget)
+{
+    struct opening how = { name, NULL, false, limit, budget };
+    if (!out || !path || !name)
+        return misuse();
+    *out = NULL;
+    return open_file(out, path, &how);
+}
+
+/* Opens a file by several names. */
+static h5w_told open_several(h5swmr_writer **out, const char *path, const char *const *names, size_t count, bool takes, uint64_t limit, uint64_t budget)
+{
+    struct names all;
+    struct opening how = { NULL, &all, takes, limit, budget };
+    if (!out || !path)
+        return misuse();
+    *out = NULL;
+    return join(&all, names, count) ? open_file(out, path, &how) : misuse();
+}
+
+h5w_told h5swmr_append_to_several(h5swmr_writer **out, const char *path, const char *const *names, size_t count, uint64_t limit, uint64_t budget)
+{
+    return open_several(out, path, names, count, false, limit, budget);
+}
+
+h5w_told h5swmr_take_over(h5swmr_writer **out, const char *path, const char *const *names, size_t count, uint64_t limit, uint64_t budget)
+{
+    return open_several(out, path, names, count, true, limit, budget);
 }
 
 h5w_told h5swmr_keep_retired(h5swmr_writer *writer)
 {
-    return writer ? h5w_writer_keep_retired(&writer->core) : misuse();
+    if (!writer)
+        return misuse();
+    return writer->is_several ? h5w_several_keep_retired(&writer->several) : h5w_writer_keep_retired(&writer->core);
 }
 
 /* What a call of the core comes to once its pieces are written: nothing is pending behind it. The line of a refusal is kept. */
@@ -369,44 +507,78 @@ static h5w_told written(h5swmr_writer *writer, h5w_told told, const uint8_t *tex
     return done.code == H5W_OK ? told : done;
 }
 
-h5w_told h5swmr_append(h5swmr_writer *writer, const int64_t *values, size_t n)
+h5w_told h5swmr_append_in(h5swmr_writer *writer, size_t dataset, const int64_t *values, size_t n)
 {
     static const int64_t none;
     uint8_t text[LINE] = { 0 };
-    if (!writer || (!values && n))
+    if (!writer || (!values && n) || (!writer->is_several && dataset))
         return misuse();
-    h5w_told told = h5w_writer_append(&writer->core, values ? values : &none, n, text, sizeof text);
+    values = values ? values : &none;
+    h5w_told told = writer->is_several ? h5w_several_append(&writer->several, dataset, values, n, text, sizeof text) : h5w_writer_append(&writer->core, values, n, text, sizeof text);
     return written(writer, told, text);
+}
+
+h5w_told h5swmr_append_in_u64(h5swmr_writer *writer, size_t dataset, const uint64_t *values, size_t n)
+{
+    static const uint64_t none;
+    uint8_t text[LINE] = { 0 };
+    if (!writer || (!values && n) || (!writer->is_several && dataset))
+        return misuse();
+    values = values ? values : &none;
+    h5w_told told = writer->is_several ? h5w_several_append_u64(&writer->several, dataset, values, n, text, sizeof text) : h5w_writer_append_u64(&writer->core, values, n, text, sizeof text);
+    return written(writer, told, text);
+}
+
+h5w_told h5swmr_append(h5swmr_writer *writer, const int64_t *values, size_t n)
+{
+    return h5swmr_append_in(writer, 0, values, n);
 }
 
 h5w_told h5swmr_append_u64(h5swmr_writer *writer, const uint64_t *values, size_t n)
 {
-    static const uint64_t none;
-    uint8_t text[LINE] = { 0 };
-    if (!writer || (!values && n))
-        return misuse();
-    h5w_told told = h5w_writer_append_u64(&writer->core, values ? values : &none, n, text, sizeof text);
-    return written(writer, told, text);
+    return h5swmr_append_in_u64(writer, 0, values, n);
 }
 
 h5w_told h5swmr_flush(h5swmr_writer *writer)
 {
     uint8_t text[LINE] = { 0 };
+    uint64_t counts[NAMES];
     if (!writer)
         return misuse();
-    h5w_told told = h5w_writer_flush(&writer->core, text, sizeof text);
+    h5w_told told = writer->is_several ? h5w_several_flush(&writer->several, counts, NAMES, text, sizeof text) : h5w_writer_flush(&writer->core, text, sizeof text);
     told = written(writer, told, text);
-    return told.code == H5W_OK ? tell(H5W_OK, 0, h5w_writer_rows(&writer->core)) : told;
+    return told.code == H5W_OK ? tell(H5W_OK, 0, h5swmr_appended(writer)) : told;
+}
+
+uint64_t h5swmr_appended_in(h5swmr_writer *writer, size_t dataset)
+{
+    if (!writer)
+        return 0;
+    return writer->is_several ? h5w_several_rows(&writer->several, dataset) : dataset ? 0 : h5w_writer_rows(&writer->core);
+}
+
+uint64_t h5swmr_columns_in(h5swmr_writer *writer, size_t dataset)
+{
+    if (!writer)
+        return 0;
+    return writer->is_several ? h5w_several_columns(&writer->several, dataset) : dataset ? 0 : h5w_writer_columns(&writer->core);
+}
+
+uint64_t h5swmr_count(h5swmr_writer *writer)
+{
+    if (!writer)
+        return 0;
+    return writer->is_several ? h5w_several_count(&writer->several) : 1;
 }
 
 uint64_t h5swmr_appended(h5swmr_writer *writer)
 {
-    return writer ? h5w_writer_rows(&writer->core) : 0;
+    return h5swmr_appended_in(writer, 0);
 }
 
 uint64_t h5swmr_columns(h5swmr_writer *writer)
 {
-    return writer ? h5w_writer_columns(&writer->core) : 0;
+    return h5swmr_columns_in(writer, 0);
 }
 
 h5w_told h5swmr_close_writer(h5swmr_writer **out)
@@ -417,7 +589,7 @@ h5w_told h5swmr_close_writer(h5swmr_writer **out)
     *out = NULL;
     uint8_t text[LINE] = { 0 };
     h5w_told told = h5swmr_flush(writer);
-    h5w_told done = h5w_writer_close(&writer->core, text, sizeof text);
+    h5w_told done = writer->is_several ? h5w_several_close(&writer->several, text, sizeof text) : h5w_writer_close(&writer->core, text, sizeof text);
     done = written(writer, done, text); /* (behind a refused flush its line stays) */
     return drop_writer(writer, told.code == H5W_OK ? done : told);
 }
@@ -434,7 +606,7 @@ static const char *refusal_text(uint32_t detail)
 static const char *unopened_text(uint32_t detail)
 {
     static const char *const texts[] = { "not a file to append to", "superblock of another version than 3", "flags of a writer", "the file ends before its end-of-file address",
-        "layout message behind the first part of the dataset header", "chunks of too many bytes", "rows without columns" };
+        "layout message behind the first part of the dataset header", "chunks of too many bytes", "rows without columns", "two names of one dataset" };
     if (detail == H5W_TREE || detail == H5W_TREE_RECORDS)
         return "damaged tree";
     return texts[detail < sizeof texts / sizeof *texts ? detail : 0];

@@ -1,4 +1,4 @@
-/* h5swmr for C and C++: one writer appends rows to a dataset of an HDF5 file, and readers find them, with no lock.
+/* h5swmr for C and C++: one writer appends rows to a dataset of an HDF5 file, or to several, and readers find them, with no lock.
  *
  * There are two layers. The file layer (h5swmr.c, at the end of this page) opens files, and calls pread and pwrite: most programs
  * need nothing else. Below it stand the cores (crates/h5w_c), which touch no file: they say which bytes they want, and which are to
@@ -32,10 +32,10 @@ enum h5w_code {
     H5W_AGAIN = 3,    /* the header changed in each of detail attempts: refresh again. count: the first place that changed */
     H5W_SHRUNK = 4,   /* count rows are there, fewer than were seen: it is another file, so open it anew */
     H5W_REFUSED = 5,  /* the file is not one that is read. detail: enum h5w_refusal */
-    H5W_MEMORY = 6,   /* memory was refused; the handle is as before the call */
+    H5W_MEMORY = 6,   /* memory was refused, or rows that wait are past the budget of several datasets; the handle is as before the call */
     H5W_BUSY = 7,     /* a call is unfinished, count pieces are pending, or the handle to be opened is open */
     H5W_ROWS = 8,     /* read: rows that were not seen, count were. append: no whole rows, which have count values each */
-    H5W_MISUSE = 9,   /* the handle is not open, an option is out of bounds, or no such bytes were asked for */
+    H5W_MISUSE = 9,   /* the handle is not open, an option, a name or a dataset is out of bounds, or no such bytes were asked for */
     H5W_STOPPED = 10, /* the session was closed, or a write failed */
     H5W_RANGE = 11,   /* a value is outside the type, the dataset's or int64_t. count: its index in the call */
     H5W_CHUNKS = 12,  /* the rows need more than count chunks */
@@ -63,6 +63,7 @@ enum h5w_unopened {
     H5W_LAYOUT = 4,       /* the layout message stands behind the first part of the dataset header */
     H5W_CHUNK_BYTES = 5,  /* count: the bytes of a chunk, too many */
     H5W_NO_COLUMNS = 6,   /* rows without columns */
+    H5W_SAME = 7,         /* two names lead to one dataset. count: the number of the second, counted from 1 */
     H5W_TREE = 15,        /* a block of the tree is damaged. count: where */
     H5W_TREE_RECORDS = 16 /* the records of the tree are out of order. count: where */
 };
@@ -73,7 +74,7 @@ typedef struct {
     uint64_t columns;    /* columns of a row, 1 to 65,536; 0: one dimension */
     uint64_t width;      /* columns of a chunk, 1 to 65,536; without columns it is not looked at */
     uint64_t limit;      /* the most bytes of the file, 1,024 to 2^40 */
-    uint64_t budget;     /* the most bytes that wait unwritten for a flush, 1,024 to 2^30 */
+    uint64_t budget;     /* the most bytes that wait unwritten for a flush, 1,024 to 2^30; of several datasets so many of each */
     int64_t fill;        /* what cells hold that no row was written to; where `filled` is 0 it is not looked at */
     uint8_t size;        /* bytes of a value, 1, 2, 4 or 8 */
     uint8_t big;         /* of these flags 0 is no, and all else yes: big-endian */
@@ -118,6 +119,12 @@ typedef struct {
     uint8_t live;
     void *at;
 } h5w_writer;
+
+/* A writer of several datasets of one file. */
+typedef struct {
+    uint8_t live;
+    void *at;
+} h5w_several;
 
 /* A range of the file: of a look, or of a piece. */
 typedef struct {
@@ -210,6 +217,46 @@ uint64_t h5w_writer_columns(h5w_writer *);
 /* Frees the writer, whatever it is at; the handle is all zero again. */
 void h5w_writer_free(h5w_writer *);
 
+/* ---- A writer of several datasets of one file. Its calls are those of a writer, and C owes the same. A dataset is named by its number, counted
+ * from 0, in the order of the names; a number with no dataset is MISUSE, and changes nothing. Names are their bytes, one behind another, and the
+ * length of each: "framestimes" with 6 and 5. */
+
+/* Begins a new file with a dataset of each of 1 to 8 names of 1 to 64 bytes, all by these options: OK (count: pieces are pending), BUSY, MISUSE (an
+ * option or the names are out of bounds, a name stands twice, or the limit is below 1,024 bytes a name) or MEMORY. */
+h5w_told h5w_several_create(h5w_several *, const uint8_t *names, size_t size, const uint64_t *lens, size_t count, const h5w_options *);
+
+/* Opens a file to append to its datasets of 1 to 8 names of up to 512 bytes, as h5w_writer_open. OPENED too if two names lead to one dataset. */
+h5w_told h5w_several_open(h5w_several *, const uint8_t *bytes, size_t n, const uint8_t *names, size_t size, const uint64_t *lens, size_t count, uint64_t limit, uint64_t budget, uint8_t *text, size_t room);
+
+/* The same of a file that a writer left open, as where its process was killed: OK (count: 0, nothing is pending). OPENED (detail: H5W_WRITER) if the
+ * file has not both flags of a writer. C owes besides: that writer writes no more. */
+h5w_told h5w_several_take_over(h5w_several *, const uint8_t *bytes, size_t n, const uint8_t *names, size_t size, const uint64_t *lens, size_t count, uint64_t limit, uint64_t budget, uint8_t *text, size_t room);
+
+/* Appends whole rows to a dataset, as h5w_writer_append. No row is written before its flush: MEMORY too if the chunks of the dataset's rows that would
+ * wait have more bytes than its budget. A flush makes room; a chunk that is larger needs a greater budget. */
+h5w_told h5w_several_append(h5w_several *, size_t dataset, const int64_t *values, size_t n, uint8_t *text, size_t room);
+h5w_told h5w_several_append_u64(h5w_several *, size_t dataset, const uint64_t *values, size_t n, uint8_t *text, size_t room);
+
+/* Plans the pieces that make the appended rows of all datasets visible, dataset after dataset, as h5w_writer_flush. What is refused is refused for
+ * all. How many pieces each dataset has goes to the front of `counts`, as many of these numbers as have room, but for behind a refusal. */
+h5w_told h5w_several_flush(h5w_several *, uint64_t *counts, size_t n, uint8_t *text, size_t room);
+
+/* As h5w_writer_next, h5w_writer_written, h5w_writer_failed, h5w_writer_close and h5w_writer_keep_retired. */
+bool h5w_several_next(h5w_several *, uint8_t *out, size_t n, h5w_place *);
+h5w_told h5w_several_written(h5w_several *);
+h5w_told h5w_several_failed(h5w_several *);
+h5w_told h5w_several_close(h5w_several *, uint8_t *text, size_t room);
+h5w_told h5w_several_keep_retired(h5w_several *);
+
+/* The rows that were appended to a dataset in all, the values of its rows, and how many datasets there are; 0 if there is no such dataset, and of a
+ * handle that is not open. */
+uint64_t h5w_several_rows(h5w_several *, size_t dataset);
+uint64_t h5w_several_columns(h5w_several *, size_t dataset);
+uint64_t h5w_several_count(h5w_several *);
+
+/* Frees the writer, whatever it is at; the handle is all zero again. */
+void h5w_several_free(h5w_several *);
+
 /* ---- Files. A handle is a pointer, NULL where an open or create failed and after a close: a call of NULL answers H5W_MISUSE. A copy of
  * the pointer is not to be used once the handle is closed. A handle is in one call at a time, of the thread that opened it.
  *
@@ -275,6 +322,31 @@ uint64_t h5swmr_columns(h5swmr_writer *);
 /* Flushes, closes the file and sets the pointer to NULL: OK, or the first of the refusals on the way. Only where a write failed has the file
  * a writer's flags then: `h5swmr check` and `h5swmr clear` say and do the rest. */
 h5w_told h5swmr_close_writer(h5swmr_writer **);
+
+/* ---- Writers of several datasets of one file. Any call above takes one too, and means the dataset of the first name if it names none; flush, close
+ * and keep_retired are of all. Rows wait for their flush, and their chunks, whole ones, are within the budget of each dataset: else an append is
+ * MEMORY. So give it room for a few chunks. */
+
+/* Makes a file, which must not be there, with an empty dataset of each of 1 to 8 names, all by these options, and goes on as its writer: as
+ * h5swmr_create. MISUSE too if a name stands twice, or the limit is below 1,024 bytes a name. */
+h5w_told h5swmr_create_several(h5swmr_writer **, const char *path, const char *const *names, size_t count, const h5w_options *);
+
+/* Opens a file to append to its datasets of 1 to 8 names: as h5swmr_append_to, with the rows of the first. OPENED too if two names lead to one
+ * dataset. */
+h5w_told h5swmr_append_to_several(h5swmr_writer **, const char *path, const char *const *names, size_t count, uint64_t limit, uint64_t budget);
+
+/* The same of a file that a writer left open, which was killed and writes no more: rows that it had not flushed are gone. OPENED (detail:
+ * H5W_WRITER) if the file has not both flags of a writer. */
+h5w_told h5swmr_take_over(h5swmr_writer **, const char *path, const char *const *names, size_t count, uint64_t limit, uint64_t budget);
+
+/* As h5swmr_append, to the dataset of this number, counted from 0: MISUSE if there is none. */
+h5w_told h5swmr_append_in(h5swmr_writer *, size_t dataset, const int64_t *values, size_t n);
+h5w_told h5swmr_append_in_u64(h5swmr_writer *, size_t dataset, const uint64_t *values, size_t n);
+
+/* The rows that were appended to a dataset in all, the values of its rows, and how many datasets there are; 0 if there is no such dataset. */
+uint64_t h5swmr_appended_in(h5swmr_writer *, size_t dataset);
+uint64_t h5swmr_columns_in(h5swmr_writer *, size_t dataset);
+uint64_t h5swmr_count(h5swmr_writer *);
 
 /* What a code means, in a few words; of REFUSED and OPENED what the detail means, of IO the text of the system's error. */
 const char *h5swmr_text(h5w_told);

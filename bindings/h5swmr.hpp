@@ -85,6 +85,14 @@ class writer {
 
     explicit writer(h5swmr_writer *opened) : handle(opened) {}
 
+    static std::vector<const char *> texts_of(const std::vector<std::string> &names)
+    {
+        std::vector<const char *> texts;
+        for (const auto &it : names)
+            texts.push_back(it.c_str());
+        return texts;
+    }
+
 public:
     static writer create(const std::string &path, const h5w_options &how, const std::string &name = "data")
     {
@@ -99,6 +107,36 @@ public:
         done("append_to", h5swmr_append_to(&opened, path.c_str(), name.c_str(), limit, budget));
         return writer(opened);
     }
+
+    // Writers of several datasets of one file. Their numbers are those of the names, from 0 on.
+    static writer create_several(const std::string &path, const h5w_options &how, const std::vector<std::string> &names)
+    {
+        h5swmr_writer *opened;
+        auto texts = texts_of(names);
+        done("create", h5swmr_create_several(&opened, path.c_str(), texts.data(), texts.size(), &how));
+        return writer(opened);
+    }
+
+    static writer append_to_several(const std::string &path, const std::vector<std::string> &names, std::uint64_t limit = std::uint64_t(1) << 40, std::uint64_t budget = 65536)
+    {
+        h5swmr_writer *opened;
+        auto texts = texts_of(names);
+        done("append_to", h5swmr_append_to_several(&opened, path.c_str(), texts.data(), texts.size(), limit, budget));
+        return writer(opened);
+    }
+
+    // A file that a writer left open, which writes no more.
+    static writer take_over(const std::string &path, const std::vector<std::string> &names, std::uint64_t limit = std::uint64_t(1) << 40, std::uint64_t budget = 65536)
+    {
+        h5swmr_writer *opened;
+        auto texts = texts_of(names);
+        done("take_over", h5swmr_take_over(&opened, path.c_str(), texts.data(), texts.size(), limit, budget));
+        return writer(opened);
+    }
+
+    std::uint64_t append_in(std::size_t dataset, const std::vector<std::int64_t> &values) { return done("append", h5swmr_append_in(handle.get(), dataset, values.data(), values.size())); }
+    std::uint64_t rows(std::size_t dataset = 0) const { return h5swmr_appended_in(handle.get(), dataset); }
+    std::uint64_t count() const { return h5swmr_count(handle.get()); }
 
     void keep_retired() { done("keep_retired", h5swmr_keep_retired(handle.get())); }
     std::uint64_t append(const std::int64_t *values, std::size_t n) { return done("append", h5swmr_append(handle.get(), values, n)); }

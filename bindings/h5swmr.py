@@ -1,4 +1,5 @@
-"""h5swmr in Python: a writer appends rows to a dataset of an HDF5 file, and readers find them, with no lock. By ctypes, over libh5swmr.so.
+"""h5swmr in Python: a writer appends rows to a dataset of an HDF5 file, or to several, and readers find them, with no lock. By ctypes, over
+libh5swmr.so.
 
     with h5swmr.create("f.h5", kind="i32le", chunk=1024) as writer:
         writer.append([1, 2, 3])
@@ -6,6 +7,11 @@
 
     with h5swmr.Reader("f.h5") as reader:
         print(reader.read(0, reader.refresh()))
+
+    with h5swmr.create("g.h5", names=["frames", "times"]) as writer:
+        writer.append([1, 2, 3], name="frames")
+        writer.append([4], name="times")
+        writer.flush()
 
 Values come as a NumPy array if NumPy is there. Else they come as one array of the module array, or as a list of them if rows have
 several values. What is refused is an Error, which has the code and what the code tells (h5swmr.h has them all).
@@ -25,10 +31,10 @@ try:
 except ImportError:
     numpy = None
 
-__all__ = ["Again", "Error", "Reader", "Shape", "Writer", "append_to", "create"]
+__all__ = ["Again", "Error", "Reader", "SeveralWriter", "Shape", "Writer", "append_to", "create", "take_over"]
 
 OK, AGAIN, SHRUNK, REFUSED, ROWS, STOPPED, RANGE, CHUNKS, FULL, OPENED, IO = 0, 3, 4, 5, 8, 10, 11, 12, 13, 14, 64
-LIMIT, BUDGET = 1 << 40, 65536
+LIMIT, BUDGET, SEVERAL_BUDGET = 1 << 40, 65536, 1 << 26
 HERE = os.path.dirname(os.path.realpath(__file__))
 
 
@@ -59,24 +65,28 @@ def library():
     return ctypes.CDLL(next((it for it in places if it and os.path.exists(it)), name))
 
 
-HANDLE, NUMBER, POINTER, TEXT = ctypes.c_void_p, ctypes.c_uint64, ctypes.c_void_p, ctypes.c_char_p
+HANDLE, NUMBER, POINTER, TEXT, SIZE = ctypes.c_void_p, ctypes.c_uint64, ctypes.c_void_p, ctypes.c_char_p, ctypes.c_size_t
+TEXTS = ctypes.POINTER(TEXT)
 CALLS = {
     "open": (Told, ctypes.POINTER(HANDLE), TEXT, TEXT, ctypes.c_uint32),
     "refresh": (Told, HANDLE),
     "rows": (NUMBER, HANDLE),
     "shape": (Told, HANDLE, ctypes.POINTER(RawShape)),
     "load": (Told, HANDLE, NUMBER, NUMBER),
-    "values": (Told, HANDLE, NUMBER, POINTER, ctypes.c_size_t),
-    "values_u64": (Told, HANDLE, NUMBER, POINTER, ctypes.c_size_t),
+    "values": (Told, HANDLE, NUMBER, POINTER, SIZE),
+    "values_u64": (Told, HANDLE, NUMBER, POINTER, SIZE),
     "close_reader": (Told, ctypes.POINTER(HANDLE)),
     "create": (Told, ctypes.POINTER(HANDLE), TEXT, TEXT, ctypes.POINTER(Options)),
     "append_to": (Told, ctypes.POINTER(HANDLE), TEXT, TEXT, NUMBER, NUMBER),
+    "create_several": (Told, ctypes.POINTER(HANDLE), TEXT, TEXTS, SIZE, ctypes.POINTER(Options)),
+    "append_to_several": (Told, ctypes.POINTER(HANDLE), TEXT, TEXTS, SIZE, NUMBER, NUMBER),
+    "take_over": (Told, ctypes.POINTER(HANDLE), TEXT, TEXTS, SIZE, NUMBER, NUMBER),
     "keep_retired": (Told, HANDLE),
-    "append": (Told, HANDLE, POINTER, ctypes.c_size_t),
-    "append_u64": (Told, HANDLE, POINTER, ctypes.c_size_t),
+    "append_in": (Told, HANDLE, SIZE, POINTER, SIZE),
+    "append_in_u64": (Told, HANDLE, SIZE, POINTER, SIZE),
     "flush": (Told, HANDLE),
-    "appended": (NUMBER, HANDLE),
-    "columns": (NUMBER, HANDLE),
+    "appended_in": (NUMBER, HANDLE, SIZE),
+    "columns_in": (NUMBER, HANDLE, SIZE),
     "close_writer": (Told, ctypes.POINTER(HANDLE)),
     "text": (ctypes.c_char_p, Told),
     "line": (ctypes.c_char_p,),
@@ -147,9 +157,9 @@ class Handle:
         with self._lock:
             return done(name, _calls[name](self._pointer, *words))
 
-    def _number(self, name):
+    def _number(self, name, *words):
         with self._lock:
-            return _calls[name](self._pointer)
+            return _calls[name](self._pointer, *words)
 
     @property
     def closed(self):
@@ -272,54 +282,117 @@ def place_of(kept):
 
 
 class Writer(Handle):
-    """The one writer of a file: `create` and `append_to` make it."""
+    """The one writer of a file with one dataset of it: `create` and `append_to` make it."""
 
     closing = "close_writer"
 
-    def __init__(self, call, path, name, words, keep_retired):
+    def __init__(self, call, path, names, words, keep_retired):
         super().__init__()
-        done(call, _calls[call](ctypes.byref(self._pointer), word(os.fsencode(path)), word(name.encode()), *words))
+        done(call, _calls[call](ctypes.byref(self._pointer), word(os.fsencode(path)), *names, *words))
         if keep_retired:
             self._call("keep_retired")
 
     @property
     def rows(self):
         """The rows that were appended in all; those that were not flushed count too."""
-        return self._number("appended")
+        return self._number("appended_in", 0)
 
     @property
     def columns(self):
         """How many values a row has."""
-        return self._number("columns")
+        return self._number("columns_in", 0)
+
+    def _append(self, dataset, values):
+        kept, wide = as_values(values)
+        columns = self._number("columns_in", dataset)
+        if wide is not None and columns not in (0, wide):  # (0 of a closed one)
+            raise ValueError(f"rows of {wide} values, and the dataset has {columns}")
+        place, count, unsigned = place_of(kept)
+        with self._lock:
+            return done("append", _calls["append_in_u64" if unsigned else "append_in"](self._pointer, dataset, place, count))
 
     def append(self, values):
         """Appends whole rows, and tells how many rows there are in all. They wait for a flush. A refusal appends nothing."""
-        kept, wide = as_values(values)
-        if wide is not None and self.columns not in (0, wide):  # (0 of a closed one)
-            raise ValueError(f"rows of {wide} values, and the dataset has {self.columns}")
-        place, count, unsigned = place_of(kept)
-        return self._call("append_u64" if unsigned else "append", place, count)
+        return self._append(0, values)
 
     def flush(self):
         """Makes the appended rows visible: how many each reader finds whose call begins from now on."""
         return self._call("flush")
 
 
-def create(path, name="data", kind="i64le", chunk=1024, columns=0, width=0, fixed=False, fill=None, limit=LIMIT, budget=BUDGET, keep_retired=False):
+class SeveralWriter(Writer):
+    """The one writer of a file with several datasets of it: `create`, `append_to` and `take_over` make it where they are given names. Rows wait for their
+    flush, which is of all datasets. An append with which the chunks of a dataset's rows that wait had more bytes than the budget is refused for want of
+    memory."""
+
+    def __init__(self, call, path, names, words, keep_retired):
+        self.names = tuple(names)
+        texts = [word(it.encode()) for it in self.names]
+        super().__init__(call, path, ((TEXT * len(texts))(*texts), len(texts)), words, keep_retired)
+
+    def _by_name(self, call):
+        return {it: self._number(call, at) for at, it in enumerate(self.names)}
+
+    @property
+    def rows(self):
+        """The rows of each dataset that were appended in all; those that were not flushed count too."""
+        return self._by_name("appended_in")
+
+    @property
+    def columns(self):
+        """How many values a row of each dataset has."""
+        return self._by_name("columns_in")
+
+    def append(self, values, name):
+        """Appends whole rows to the dataset of this name, and tells how many rows it has in all. They wait for a flush. A refusal appends nothing."""
+        if name not in self.names:
+            raise KeyError(f"no dataset of this writer: {name!r}")
+        return self._append(self.names.index(name), values)
+
+    def flush(self):
+        """Makes the appended rows of all datasets visible: how many of each every reader finds whose call begins from now on."""
+        self._call("flush")
+        return self.rows
+
+
+def budget_of(budget, names):
+    """How many bytes may wait, of each dataset: 65,536 if it is not said, and where there are names 64 MiB."""
+    return budget if budget is not None else BUDGET if names is None else SEVERAL_BUDGET
+
+
+def writer_of(call, path, name, names, words, keep_retired):
+    """A writer of one dataset, or of several where names are given."""
+    if names is None:
+        return Writer(call, path, (word(name.encode()),), words, keep_retired)
+    if isinstance(names, (str, bytes)):
+        raise TypeError(f"{names!r} are no names")
+    return SeveralWriter(f"{call}_several", path, names, words, keep_retired)
+
+
+def create(path, name="data", kind="i64le", chunk=1024, columns=0, width=0, fixed=False, fill=None, limit=LIMIT, budget=None, keep_retired=False, names=None):
     """Makes a file, which must not be there, with an empty dataset, and gives its writer. The words are those of `h5swmr new`: kind is one of i8, u8,
     i16le and so on, chunk the rows of a chunk; with columns there are two dimensions, and width columns in a chunk. keep_retired is as
-    `--no-reuse`, for HDF5's own library as a reader."""
+    `--no-reuse`, for HDF5's own library as a reader. With names there is a dataset of each, 1 to 8 of them, all by these words, and the writer is a
+    SeveralWriter. The budget is 65,536 bytes if it is not said, and with names 64 MiB of each."""
     parts = re.fullmatch("([iu])(?:(8)|(16|32|64)(le|be))", kind)
     if not parts:
         raise ValueError(f"no such type: {kind!r}")
     sign, short, long, order = parts.groups()
     if fill is not None and not -1 << 63 <= fill < 1 << 63:
         raise OverflowError(f"a fill of {fill} is no signed number of 64 bits")
-    numbers = [number(it) for it in (chunk, columns, width, limit, budget)]
+    numbers = [number(it) for it in (chunk, columns, width, limit, budget_of(budget, names))]
     how = Options(*numbers, fill or 0, int(short or long) // 8, order == "be", sign == "i", fill is not None, fixed)
-    return Writer("create", path, name, (ctypes.byref(how),), keep_retired)
+    return writer_of("create", path, name, names, (ctypes.byref(how),), keep_retired)
 
 
-def append_to(path, name="data", limit=LIMIT, budget=BUDGET, keep_retired=False):
-    """Opens a file to append to it, and gives its writer. Nobody else may write the file."""
-    return Writer("append_to", path, name, (number(limit), number(budget)), keep_retired)
+def append_to(path, name="data", limit=LIMIT, budget=None, keep_retired=False, names=None):
+    """Opens a file to append to it, and gives its writer; with names a SeveralWriter of these datasets. Nobody else may write the file."""
+    return writer_of("append_to", path, name, names, (number(limit), number(budget_of(budget, names))), keep_retired)
+
+
+def take_over(path, names, limit=LIMIT, budget=None, keep_retired=False):
+    """Opens a file that a writer left open, which was killed and writes no more, and gives a SeveralWriter of these datasets. Rows that it had not
+    flushed are gone."""
+    if isinstance(names, (str, bytes)):
+        raise TypeError(f"{names!r} are no names")
+    return SeveralWriter("take_over", path, names, (number(limit), number(budget_of(budget, names))), keep_retired)

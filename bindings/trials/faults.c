@@ -1,4 +1,4 @@
-/* The file layer over a system that fails: faults FILE, which it makes. Linked with --wrap of pread, pwrite, malloc, calloc and realloc, so that calls of
+/* The file layer over a system that fails: faults FILE [SETS], which it makes, with so many datasets (1). Linked with --wrap of pread, pwrite, malloc, calloc and realloc, so that calls of
  * the system move one byte, are interrupted, give bytes that are half written, or fail. Prints nothing but what is wrong. */
 #define _POSIX_C_SOURCE 200809L
 #include "trials.h"
@@ -10,6 +10,16 @@
 
 #define BATCHES 4
 #define BATCH 150
+#define SETS 3
+
+static const char *const NAMES[SETS] = { "data", "more", "last" };
+static size_t sets = 1;
+
+/* The value of a row of a dataset. */
+static int64_t value_in(size_t set, uint64_t row)
+{
+    return value_of(set * 10007 + row);
+}
 
 ssize_t __real_pread(int, void *, size_t, off_t);
 ssize_t __real_pwrite(int, const void *, size_t, off_t);
@@ -84,21 +94,38 @@ void *__wrap_realloc(void *old, size_t n)
         told = call; \
     while (told.code == H5W_MEMORY)
 
+/* Begins a file of one dataset or of several. */
+static h5w_told begin(h5swmr_writer **writer, const char *file, const h5w_options *how)
+{
+    return sets == 1 ? h5swmr_create(writer, file, NAMES[0], how) : h5swmr_create_several(writer, file, NAMES, sets, how);
+}
+
+/* Appends a batch to each dataset. */
+static h5w_told append_all(h5swmr_writer *writer, uint64_t rows)
+{
+    h5w_told told = { H5W_OK, 0, 0 };
+    int64_t values[BATCH];
+    for (size_t k = 0; told.code == H5W_OK && k < sets; k++) {
+        for (uint64_t j = 0; j < BATCH; j++)
+            values[j] = value_in(k, rows + j);
+        AGAIN_IF_MEMORY(h5swmr_append_in(writer, k, values, BATCH));
+    }
+    return told;
+}
+
 /* Writes the batches to a new file; the rows that were flushed before a call came to IO. */
 static uint64_t write_all(const char *file)
 {
     h5swmr_writer *writer;
     h5w_options how = H5W_OPTIONS;
     h5w_told told;
-    int64_t values[BATCH];
     uint64_t rows = 0;
+    const int64_t value = 1;
     how.chunk_rows = 7, how.size = 4;
     unlink(file);
-    AGAIN_IF_MEMORY(h5swmr_create(&writer, file, "data", &how));
+    AGAIN_IF_MEMORY(begin(&writer, file, &how));
     for (int k = 0; told.code == H5W_OK && k < BATCHES; k++) {
-        for (uint64_t j = 0; j < BATCH; j++)
-            values[j] = value_of(rows + j);
-        AGAIN_IF_MEMORY(h5swmr_append(writer, values, BATCH));
+        told = append_all(writer, rows);
         if (told.code == H5W_OK)
             AGAIN_IF_MEMORY(h5swmr_flush(writer));
         if (told.code == H5W_OK)
@@ -110,7 +137,7 @@ static uint64_t write_all(const char *file)
         /* (a create that failed made no handle, and a close leaves none) */
         uint32_t code = writer ? H5W_STOPPED : H5W_MISUSE;
         want("errno", told.detail, ENOSPC);
-        want_code("append after a failed write", h5swmr_append(writer, values, 1), code);
+        want_code("append after a failed write", h5swmr_append(writer, &value, 1), code);
         want("its line", !writer || !strcmp(h5swmr_line(), "stopped"), true);
         want_code("flush after a failed write", h5swmr_flush(writer), code);
         want_code("close after a failed write", h5swmr_close_writer(&writer), code);
@@ -119,21 +146,31 @@ static uint64_t write_all(const char *file)
     return rows;
 }
 
-/* Reads the file, and compares its rows. */
-static void read_all(const char *file, uint64_t rows)
+/* Reads a dataset, and compares its rows: so many, or a batch more, which are told. */
+static uint64_t read_set(const char *file, size_t set, uint64_t rows, uint64_t most)
 {
     h5swmr_reader *reader;
     h5w_told told;
     static int64_t values[BATCHES * BATCH];
-    AGAIN_IF_MEMORY(h5swmr_open(&reader, file, "data", 8));
-    want("rows", want_code("open", told, H5W_OK).count, rows);
+    AGAIN_IF_MEMORY(h5swmr_open(&reader, file, NAMES[set], 8));
+    uint64_t there = want_code("open", told, H5W_OK).count;
+    want("rows", there == rows || there == most, true);
     AGAIN_IF_MEMORY(h5swmr_refresh(reader));
-    want("rows", want_code("refresh", told, H5W_OK).count, rows);
-    AGAIN_IF_MEMORY(h5swmr_read(reader, 0, rows, values, BATCHES * BATCH));
-    want("values", want_code("read", told, H5W_OK).count, rows);
-    for (uint64_t k = 0; k < rows && !failed; k++)
-        want("value", (uint64_t)values[k], (uint64_t)value_of(k));
+    want("rows", want_code("refresh", told, H5W_OK).count, there);
+    AGAIN_IF_MEMORY(h5swmr_read(reader, 0, there, values, BATCHES * BATCH));
+    want("values", want_code("read", told, H5W_OK).count, there);
+    for (uint64_t k = 0; k < there && !failed; k++)
+        want("value", (uint64_t)values[k], (uint64_t)value_in(set, k));
     want_code("close", h5swmr_close_reader(&reader), H5W_OK);
+    return there;
+}
+
+/* Reads the file: a flush of several datasets that failed may have brought its rows to some, the first of them. */
+static void read_all(const char *file, uint64_t rows)
+{
+    uint64_t most = sets == 1 ? rows : rows + BATCH;
+    for (size_t k = 0; k < sets; k++)
+        most = read_set(file, k, rows, most);
 }
 
 /* Calls that move one byte, and are interrupted. */
@@ -207,7 +244,8 @@ static void failed_puts(const char *file)
         uint64_t rows = write_all(file);
         is_over = fail_put > 0;
         fail_put = 0;
-        if (n > 5)
+        /* (a reader finds a file once the pieces of its creation are there: three of each dataset, and two) */
+        if (n > 3 * (long)sets + 2)
             read_all(file, rows);
     }
     want("many writes failed", n > 100, true);
@@ -229,11 +267,16 @@ static void failed_memory(const char *file)
 
 int main(int argc, char **argv)
 {
-    if (argc != 2)
+    if (argc < 2 || argc > 3)
+        return 2;
+    sets = argc > 2 ? (size_t)atoi(argv[2]) : 1;
+    if (sets < 1 || sets > SETS)
         return 2;
     brief(argv[1]);
-    torn_looks(argv[1]);
-    failed_looks(argv[1]);
+    if (sets == 1) {
+        torn_looks(argv[1]);
+        failed_looks(argv[1]);
+    }
     failed_puts(argv[1]);
     failed_memory(argv[1]);
     return failed;

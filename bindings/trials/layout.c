@@ -10,6 +10,7 @@ int main(void)
 {
     STRUCT(h5w_reader), FIELD(h5w_reader, live), FIELD(h5w_reader, at);
     STRUCT(h5w_writer), FIELD(h5w_writer, live), FIELD(h5w_writer, at);
+    STRUCT(h5w_several), FIELD(h5w_several, live), FIELD(h5w_several, at);
     STRUCT(h5w_told), FIELD(h5w_told, code), FIELD(h5w_told, detail), FIELD(h5w_told, count);
     STRUCT(h5w_place), FIELD(h5w_place, at), FIELD(h5w_place, len);
     STRUCT(h5w_shape), FIELD(h5w_shape, rows), FIELD(h5w_shape, columns), FIELD(h5w_shape, chunk_rows), FIELD(h5w_shape, width), FIELD(h5w_shape, dimensions);

@@ -41,6 +41,18 @@ int main(int argc, char **argv)
     } catch (const h5swmr::error &error) {
         is_right &= error.line == "error link none";
     }
+    {
+        const std::string two = std::string(argv[1]) + ".two";
+        auto both = h5swmr::writer::create_several(two, how, { "frames", "times" });
+        is_right &= both.append_in(0, { 1, 2 }) == 2 && both.append_in(1, { 3 }) == 1 && both.flush() == 2;
+        is_right &= both.count() == 2 && both.rows() == 2 && both.rows(1) == 1 && both.rows(2) == 0;
+        is_right &= code_of([&] { both.append_in(2, { 1 }); }) == H5W_MISUSE;
+        is_right &= code_of([&] { h5swmr::writer::append_to_several(two, { "times", "frames" }); }) == H5W_OPENED;
+        both.close();
+        is_right &= h5swmr::reader(two, "times").read(0, 1).at(0) == 3;
+        is_right &= code_of([&] { h5swmr::writer::take_over(two, { "times", "frames" }); }) == H5W_OPENED;
+        is_right &= h5swmr::writer::append_to_several(two, { "times", "frames" }).rows(1) == 2;
+    }
     if (!is_right)
         std::cout << "an answer of the classes is wrong\n";
     return is_right ? 0 : 1;

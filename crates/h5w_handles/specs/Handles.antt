@@ -4,18 +4,28 @@ use Rattle.h5w_handles.specs.Codes.{busy, misuse, no_memory, wants_more}
 use Rattle.h5w_handles.specs.ReaderCalls.{IsNewReader, IsQuit}
 use Rattle.h5w_handles.specs.declared.code.H5wTold.{H5wTold}
 use Rattle.h5w_handles.specs.declared.held.Held.{Held}
-use Rattle.h5w_handles.specs.declared.held.Held.TheVariants.{Reader, Writer}
+use Rattle.h5w_handles.specs.declared.held.Held.TheVariants.{Reader, Several, Writer}
 use Rattle.h5w_handles.specs.declared.reader.ReaderState.{ReaderState}
 
 abbrev pub has_reader : Option Held → Bool
 has_reader None = false
 has_reader (Some (Reader s)) = true
 has_reader (Some (Writer s)) = false
+has_reader (Some (Several s)) = false
 
+-- a writer of one dataset
 abbrev pub has_writer : Option Held → Bool
 has_writer None = false
 has_writer (Some (Reader s)) = false
 has_writer (Some (Writer s)) = true
+has_writer (Some (Several s)) = false
+
+-- a writer of several datasets
+abbrev pub has_several : Option Held → Bool
+has_several None = false
+has_several (Some (Reader s)) = false
+has_several (Some (Writer s)) = false
+has_several (Some (Several s)) = true
 
 -- ---- A call on a handle
 

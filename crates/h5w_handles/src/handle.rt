@@ -1,5 +1,5 @@
 //! A handle as C has it.
-ghost use Rattle.std.specs.Prelude.{◌≡◌, is_none, is_some, Some, None};
+ghost use Rattle.std.specs.Prelude.{◌≡◌, IsFalse, IsTrue, is_none, is_some, Some, None};
 ghost use Rattle.std.specs.Option.{option_map};
 
 use crate::held::Held;
@@ -56,6 +56,20 @@ impl Handle {
             live: true,
             at: Owner::of(held),
         };
+    }
+
+    /// It holds this, unless memory is wanting: then this is let go, and it holds what it held.
+    pub fn hold(&mut self, alloc: Global, held: Held) -> bool
+        ensures yes { IsTrue result → self.new.at.held ≡ Some held }
+        ensures no { IsFalse result → self.new.at.held ≡ self.old.at.held }
+    {
+        match Box::new(alloc, held) {
+            Ok(held) => {
+                self.put(held);
+                true
+            }
+            Err(_) => false,
+        }
     }
 
     /// It holds nothing any more, and what it held is let go.

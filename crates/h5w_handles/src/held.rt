@@ -1,4 +1,5 @@
 use crate::reader::ReaderState;
+use crate::several::SeveralState;
 use h5w_session::WriterCore;
 
 /// What a handle holds.
@@ -6,4 +7,5 @@ use h5w_session::WriterCore;
 pub enum Held {
     Reader(ReaderState),
     Writer(WriterCore),
+    Several(SeveralState),
 }

@@ -43,7 +43,7 @@ impl Handle {
         let held = self.take(alloc)?;
         let place = match &*held {
             Held::Reader(reader) => reader.want(),
-            Held::Writer(_) => None,
+            Held::Writer(_) | Held::Several(_) => None,
         };
         self.put(held);
         place
@@ -58,7 +58,7 @@ impl Handle {
         };
         let told = match &mut *held {
             Held::Reader(reader) => reader.give(bytes),
-            Held::Writer(_) => H5wCode::Misuse.alone(),
+            Held::Writer(_) | Held::Several(_) => H5wCode::Misuse.alone(),
         };
         self.put(held);
         told
@@ -73,7 +73,7 @@ impl Handle {
         };
         let told = match &mut *held {
             Held::Reader(reader) => reader.refresh(),
-            Held::Writer(_) => H5wCode::Misuse.alone(),
+            Held::Writer(_) | Held::Several(_) => H5wCode::Misuse.alone(),
         };
         self.put(held);
         told
@@ -88,7 +88,7 @@ impl Handle {
         };
         let told = match &mut *held {
             Held::Reader(reader) => reader.read(from, count),
-            Held::Writer(_) => H5wCode::Misuse.alone(),
+            Held::Writer(_) | Held::Several(_) => H5wCode::Misuse.alone(),
         };
         self.put(held);
         told
@@ -103,7 +103,7 @@ impl Handle {
         };
         let rows = match &*held {
             Held::Reader(reader) => reader.rows(),
-            Held::Writer(_) => 0,
+            Held::Writer(_) | Held::Several(_) => 0,
         };
         self.put(held);
         rows
@@ -116,7 +116,7 @@ impl Handle {
         let held = self.take(alloc)?;
         let shape = match &*held {
             Held::Reader(reader) => reader.shape(),
-            Held::Writer(_) => None,
+            Held::Writer(_) | Held::Several(_) => None,
         };
         self.put(held);
         shape
@@ -132,7 +132,7 @@ impl Handle {
         };
         let count = match &*held {
             Held::Reader(reader) => reader.put_refusal(alloc, out),
-            Held::Writer(_) => 0,
+            Held::Writer(_) | Held::Several(_) => 0,
         };
         self.put(held);
         count
@@ -148,7 +148,7 @@ impl Handle {
         };
         let count = match &*held {
             Held::Reader(reader) => reader.copy(from, out),
-            Held::Writer(_) => 0,
+            Held::Writer(_) | Held::Several(_) => 0,
         };
         self.put(held);
         count
@@ -163,7 +163,7 @@ impl Handle {
         };
         match &mut *held {
             Held::Reader(reader) => reader.quit(),
-            Held::Writer(_) => {}
+            Held::Writer(_) | Held::Several(_) => {}
         }
         self.put(held);
     }

@@ -23,7 +23,7 @@ use Rattle.h5w_handles.specs.Handles.{has_writer}
 use Rattle.h5w_handles.specs.declared.code.H5wCode.TheVariants as codes
 use Rattle.h5w_handles.specs.declared.code.H5wTold.{H5wTold}
 use Rattle.h5w_handles.specs.declared.held.Held.{Held}
-use Rattle.h5w_handles.specs.declared.held.Held.TheVariants.{Reader, Writer}
+use Rattle.h5w_handles.specs.declared.held.Held.TheVariants.{Reader, Several, Writer}
 use Rattle.h5w_writer_handles.specs.CreatedBy.{options_of}
 use Rattle.h5w_writer_handles.specs.Handles.{CreatesWriter, Holds, IsNewWriter, IsOpened}
 use Rattle.h5w_writer_handles.specs.declared.options.H5wOptions.{H5wOptions}
@@ -32,6 +32,7 @@ use Rattle.h5w_writer_handles.specs.declared.options.H5wOptions.{H5wOptions}
 abbrev session_in : Session → Option Held → Session
 session_in s None = s
 session_in s (Some (Reader r)) = s
+session_in s (Some (Several r)) = s
 session_in s (Some (Writer t)) = t
 
 -- a session that was created by these options

@@ -1,3 +1,3 @@
-mod FlushLemmas
-mod HoldLemmas
-mod RowsLemmas
+pub mod FlushLemmas
+pub mod HoldLemmas
+pub mod RowsLemmas

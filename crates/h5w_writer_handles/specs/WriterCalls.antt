@@ -33,8 +33,8 @@ answered why (Ok n) = told codes.Done 0 n
 answered why (Err e) = why e
 
 -- the line of a refusal is put; else the text stays
-abbrev pub TellsLine : {E : Type 0} → (E → WriterLine) → Result ℕ E → (text left : List ℕ) → Type 0
-TellsLine why (Ok n) text left = left ≡ text
+abbrev pub TellsLine : {A E : Type 0} → (E → WriterLine) → Result A E → (text left : List ℕ) → Type 0
+TellsLine why (Ok a) text left = left ≡ text
 TellsLine why (Err e) text left = PutsLine (line_text (why e)) text left
 
 -- ---- Append
@@ -90,15 +90,22 @@ pub record Flushed (text : List ℕ) (s : Session) (answer : H5wTold × List ℕ
 
 -- ---- Pieces
 
--- where the oldest of some pending pieces is to be written, if there is one and it has no more bytes than there is room for
-abbrev pub next_place : List Write → ℕ → Option H5wPlace
-next_place [] room = None
-next_place (w ∷ ws) room = if nat_le (length w.piece) room then Some (record { at = w.at; len = length w.piece }) else None
+-- where a piece is to be written, if it has no more bytes than there is room for
+abbrev pub place_for : Write → ℕ → Option H5wPlace
+place_for w room = if nat_le (length w.piece) room then Some (record { at = w.at; len = length w.piece }) else None
 
 -- its bytes, in front of what else is there
+abbrev pub bytes_for : Write → List ℕ → List ℕ
+bytes_for w out = if nat_le (length w.piece) (length out) then w.piece ++ drop (length w.piece) out else out
+
+-- so of the oldest of some pending pieces, if there is one
+abbrev pub next_place : List Write → ℕ → Option H5wPlace
+next_place [] room = None
+next_place (w ∷ ws) room = place_for w room
+
 abbrev pub next_out : List Write → List ℕ → List ℕ
 next_out [] out = out
-next_out (w ∷ ws) out = if nat_le (length w.piece) (length out) then w.piece ++ drop (length w.piece) out else out
+next_out (w ∷ ws) out = bytes_for w out
 
 -- the place of the next piece and its bytes in front of what else is there; the session is as it was
 pub record IsNextPiece (out : List ℕ) (s : Session) (answer : Option H5wPlace × List ℕ) (t : Session) : Type 0 where

@@ -23,12 +23,10 @@ fn hold(handle: &mut Handle, alloc: Global, core: WriterCore) -> H5wTold
     ensures { Holds core result handle.new.at.held }
 {
     let pending = core.pending();
-    match Box::new(alloc, Held::Writer(core)) {
-        Ok(held) => {
-            handle.put(held);
-            H5wCode::Done.with(0, pending)
-        }
-        Err(_) => H5wCode::Memory.alone(),
+    if handle.hold(alloc, Held::Writer(core)) {
+        H5wCode::Done.with(0, pending)
+    } else {
+        H5wCode::Memory.alone()
     }
 }
 
@@ -73,7 +71,7 @@ fn opened(
 }
 
 /// Tells why a file is not opened, and puts its line.
-fn refuse(alloc: Global, error: &OpenError, text: &mut [u8]) -> H5wTold
+pub fn refuse_file(alloc: Global, error: &OpenError, text: &mut [u8]) -> H5wTold
     ensures { Refuses error.now text.old result text.new }
 {
     put_line(alloc, &open_line(*error), text);
@@ -110,6 +108,6 @@ pub fn open(
     }
     match opened(alloc, bytes, name, limit, budget) {
         Ok(core) => hold(handle, alloc, core),
-        Err(error) => refuse(alloc, &error, text),
+        Err(error) => refuse_file(alloc, &error, text),
     }
 }

@@ -6,22 +6,22 @@ ghost use Rattle.h5w_text.specs.declared.error.ErrorLine.TheVariants as lines;
 ghost use Rattle.h5w_handles.specs.Codes.{no_memory, told};
 ghost use Rattle.h5w_handles.specs.declared.code.H5wCode.TheVariants as codes;
 ghost use Rattle.h5w_writer_handles.specs.Tellings.{PutsLine};
-ghost use Rattle.h5w_writer_handles.specs.WriterCalls.{Appended, AppendedRows, Closed, Failed, Flushed, KeepsRetired, Written, next_out, next_place};
+ghost use Rattle.h5w_writer_handles.specs.WriterCalls.{Appended, AppendedRows, Closed, Failed, Flushed, KeepsRetired, Written, bytes_for, next_out, next_place, place_for};
 
 use crate::room::Room;
 use crate::telling::{append_told, close_told, flush_told, refuse};
 use h5w_handles::{H5wCode, H5wPlace, H5wTold};
-use h5w_model::OutOfMemory;
+use h5w_model::{OutOfMemory, Write};
 use h5w_session::WriterCore;
 use h5w_text::ErrorLine;
 use h5w_writer_lines::{WriterLine, append_line, close_line, flush_line};
 use std::alloc::Global;
 
 /// The line of an input that the values of a call are told as.
-const LINE: u64 = 1;
+pub const LINE: u64 = 1;
 
 /// These numbers as values.
-fn signed_values(alloc: Global, numbers: &[i64]) -> Result<Vec<i128>, OutOfMemory>
+pub fn signed_values(alloc: Global, numbers: &[i64]) -> Result<Vec<i128>, OutOfMemory>
     ensures { IfOk result (λ v. v.items ≡ numbers.now) }
 {
     let values = numbers.iter().map(|n| i128::from(*n)).collect(alloc)?;
@@ -29,7 +29,7 @@ fn signed_values(alloc: Global, numbers: &[i64]) -> Result<Vec<i128>, OutOfMemor
 }
 
 /// These numbers as values.
-fn unsigned_values(alloc: Global, numbers: &[u64]) -> Result<Vec<i128>, OutOfMemory>
+pub fn unsigned_values(alloc: Global, numbers: &[u64]) -> Result<Vec<i128>, OutOfMemory>
     ensures { IfOk result (λ v. v.items ≡ map pos numbers.now) }
 {
     let values = numbers.iter().map(|n| i128::from(*n)).collect(alloc)?;
@@ -55,17 +55,17 @@ fn append_rows(core: &mut WriterCore, alloc: Global, values: &[i128], text: &mut
     }
 }
 
-/// Refuses values that are no whole rows.
-fn refuse_rows(core: &WriterCore, alloc: Global, text: &mut [u8]) -> H5wTold
-    ensures told { result ≡ told codes.Rows 0 core.now.dataset.shape.cols }
+/// Refuses values that are no whole rows of so many columns.
+pub fn refuse_rows(columns: u64, alloc: Global, text: &mut [u8]) -> H5wTold
+    ensures told { result ≡ told codes.Rows 0 columns }
     ensures line { PutsLine (error_text (lines.Line 1)) text.old text.new }
 {
     let line = WriterLine::Error(ErrorLine::Line(LINE));
-    refuse(alloc, H5wCode::Rows.with(0, core.columns()), &line, text)
+    refuse(alloc, H5wCode::Rows.with(0, columns), &line, text)
 }
 
 /// Refuses values for want of memory.
-fn refuse_memory(alloc: Global, text: &mut [u8]) -> H5wTold
+pub fn refuse_memory(alloc: Global, text: &mut [u8]) -> H5wTold
     ensures told { result ≡ no_memory }
     ensures line { PutsLine (error_text lines.Memory) text.old text.new }
 {
@@ -79,7 +79,7 @@ pub fn append(core: &mut WriterCore, alloc: Global, numbers: &[i64], text: &mut 
     ensures { Appended numbers.now text.old core.old (result, text.new) core.new }
 {
     if !are_whole(core, numbers.len()) {
-        return refuse_rows(core, alloc, text);
+        return refuse_rows(core.columns(), alloc, text);
     }
     match signed_values(alloc, numbers) {
         Ok(values) => append_rows(core, alloc, &values, text),
@@ -97,7 +97,7 @@ pub fn append_unsigned(
     ensures { Appended (map pos numbers.now) text.old core.old (result, text.new) core.new }
 {
     if !are_whole(core, numbers.len()) {
-        return refuse_rows(core, alloc, text);
+        return refuse_rows(core.columns(), alloc, text);
     }
     match unsigned_values(alloc, numbers) {
         Ok(values) => append_rows(core, alloc, &values, text),
@@ -115,13 +115,11 @@ pub fn flush(core: &mut WriterCore, alloc: Global, text: &mut [u8]) -> H5wTold
     }
 }
 
-/// Puts the oldest pending piece at the front of `out`, and answers where it is to be written. None if no piece is pending or `out` is shorter
-/// than the piece, which has at most 512 bytes.
-pub fn next(core: &WriterCore, out: &mut [u8]) -> Option<H5wPlace>
-    ensures place { result ≡ next_place core.now.pending (length out.old) }
-    ensures bytes { out.new ≡ next_out core.now.pending out.old }
+/// Puts a piece at the front of `out`, and answers where it is to be written. None if `out` is shorter than the piece.
+pub fn put_piece(write: &Write, out: &mut [u8]) -> Option<H5wPlace>
+    ensures place { result ≡ place_for write.now (length out.old) }
+    ensures bytes { out.new ≡ bytes_for write.now out.old }
 {
-    let write = core.next()?;
     let bytes = write.piece.as_slice();
     if bytes.len() > out.len() {
         return None;
@@ -131,6 +129,16 @@ pub fn next(core: &WriterCore, out: &mut [u8]) -> Option<H5wPlace>
         at: write.at,
         len: bytes.len() as u64,
     })
+}
+
+/// Puts the oldest pending piece at the front of `out`, and answers where it is to be written. None if no piece is pending or `out` is shorter
+/// than the piece, which has at most 512 bytes.
+pub fn next(core: &WriterCore, out: &mut [u8]) -> Option<H5wPlace>
+    ensures place { result ≡ next_place core.now.pending (length out.old) }
+    ensures bytes { out.new ≡ next_out core.now.pending out.old }
+{
+    let write = core.next()?;
+    put_piece(write, out)
 }
 
 /// The oldest pending piece became visible.

@@ -19,7 +19,7 @@ pub fn append(handle: &mut Handle, alloc: Global, values: &[i64], text: &mut [u8
     };
     let told = match &mut *held {
         Held::Writer(core) => writer::append(core, alloc, values, text),
-        Held::Reader(_) => H5wCode::Misuse.alone(),
+        Held::Reader(_) | Held::Several(_) => H5wCode::Misuse.alone(),
     };
     handle.put(held);
     told
@@ -39,7 +39,7 @@ pub fn append_unsigned(
     };
     let told = match &mut *held {
         Held::Writer(core) => writer::append_unsigned(core, alloc, values, text),
-        Held::Reader(_) => H5wCode::Misuse.alone(),
+        Held::Reader(_) | Held::Several(_) => H5wCode::Misuse.alone(),
     };
     handle.put(held);
     told
@@ -54,7 +54,7 @@ pub fn flush(handle: &mut Handle, alloc: Global, text: &mut [u8]) -> H5wTold
     };
     let told = match &mut *held {
         Held::Writer(core) => writer::flush(core, alloc, text),
-        Held::Reader(_) => H5wCode::Misuse.alone(),
+        Held::Reader(_) | Held::Several(_) => H5wCode::Misuse.alone(),
     };
     handle.put(held);
     told
@@ -68,7 +68,7 @@ pub fn next(handle: &mut Handle, alloc: Global, out: &mut [u8]) -> Option<H5wPla
     let held = handle.take(alloc)?;
     let place = match &*held {
         Held::Writer(core) => writer::next(core, out),
-        Held::Reader(_) => None,
+        Held::Reader(_) | Held::Several(_) => None,
     };
     handle.put(held);
     place
@@ -83,7 +83,7 @@ pub fn written(handle: &mut Handle, alloc: Global) -> H5wTold
     };
     let told = match &mut *held {
         Held::Writer(core) => writer::written(core),
-        Held::Reader(_) => H5wCode::Misuse.alone(),
+        Held::Reader(_) | Held::Several(_) => H5wCode::Misuse.alone(),
     };
     handle.put(held);
     told
@@ -98,7 +98,7 @@ pub fn failed(handle: &mut Handle, alloc: Global) -> H5wTold
     };
     let told = match &mut *held {
         Held::Writer(core) => writer::failed(core),
-        Held::Reader(_) => H5wCode::Misuse.alone(),
+        Held::Reader(_) | Held::Several(_) => H5wCode::Misuse.alone(),
     };
     handle.put(held);
     told
@@ -113,7 +113,7 @@ pub fn close(handle: &mut Handle, alloc: Global, text: &mut [u8]) -> H5wTold
     };
     let told = match &mut *held {
         Held::Writer(core) => writer::close(core, alloc, text),
-        Held::Reader(_) => H5wCode::Misuse.alone(),
+        Held::Reader(_) | Held::Several(_) => H5wCode::Misuse.alone(),
     };
     handle.put(held);
     told
@@ -128,7 +128,7 @@ pub fn keep_retired(handle: &mut Handle, alloc: Global) -> H5wTold
     };
     let told = match &mut *held {
         Held::Writer(core) => writer::keep_retired(core),
-        Held::Reader(_) => H5wCode::Misuse.alone(),
+        Held::Reader(_) | Held::Several(_) => H5wCode::Misuse.alone(),
     };
     handle.put(held);
     told
@@ -143,7 +143,7 @@ pub fn rows(handle: &mut Handle, alloc: Global) -> u64
     };
     let rows = match &*held {
         Held::Writer(core) => core.rows(),
-        Held::Reader(_) => 0,
+        Held::Reader(_) | Held::Several(_) => 0,
     };
     handle.put(held);
     rows
@@ -158,7 +158,7 @@ pub fn columns(handle: &mut Handle, alloc: Global) -> u64
     };
     let columns = match &*held {
         Held::Writer(core) => core.columns(),
-        Held::Reader(_) => 0,
+        Held::Reader(_) | Held::Several(_) => 0,
     };
     handle.put(held);
     columns

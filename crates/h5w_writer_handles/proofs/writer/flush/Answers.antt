@@ -27,7 +27,7 @@ returns-in-Err c =
       stands = so.stands;
       bound = so.bound;
       refused = so.refused;
-      causes = causes_here c.args.core.now error so.causes (λ e. let rose : Rose 0 0 = so.fault (ap as_refusal e) in absurd (omega (arith, rose)));
+      causes = causes_here error so.causes (λ e. let rose : Rose 0 0 = so.fault (ap as_refusal e) in absurd (omega (arith, rose)));
       full = so.full;
       deep = so.deep;
       shallow = so.shallow;

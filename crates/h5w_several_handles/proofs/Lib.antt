@@ -1,0 +1,5 @@
+pub mod CallLemmas
+pub mod HoldLemmas
+pub mod ListLemmas
+pub mod NameLemmas
+pub mod PieceLemmas

@@ -1,0 +1,4 @@
+pub mod Handles
+pub mod Names
+pub mod SetCalls
+pub mod Sets
