@@ -6,8 +6,8 @@
                         lemma that nothing names
 
 A lemma is named by another lemma of its file, by a `use` line of another file, or by `using` of a function. Those of
-files of examples are theorems by themselves. An answer to a goal of a function is no lemma: functions of one shape
-have answers of one shape. The last line is 'N passed, M failed'.
+files of examples, and one that is called `example`, are theorems by themselves. An answer to a goal of a function is
+no lemma: functions of one shape have answers of one shape. The last line is 'N passed, M failed'.
 """
 import collections
 import glob
@@ -21,7 +21,7 @@ TOP = os.path.dirname(os.path.dirname(os.path.realpath(__file__)))
 FUNCTIONS, LINES = 100, 800
 
 # The most groups of equal definitions, and of equal lemmas, and the most lemmas that nothing names. These only fall.
-DEFINITIONS, LEMMAS, UNNAMED = 16, 136, 79
+DEFINITIONS, LEMMAS, UNNAMED = 13, 18, 0
 
 # Shorter texts than this are equal by chance.
 SHORT = 60
@@ -129,7 +129,7 @@ def unnamed():
             words = collections.Counter(w for it in read(path).split("\n") if not it.startswith(("--", "use ", "pub use ")) for w in WORD.findall(it))
             for start, name, own in blocks(path):
                 inside = words[name] > sum(WORD.findall(it).count(name) for it in own)
-                if not inside and (module, name) not in names and name not in whole[module]:
+                if not inside and name != "example" and (module, name) not in names and name not in whole[module]:
                     found.append(f"{name}, {place(path)}:{start}")
     return found
 
