@@ -19,10 +19,6 @@ use h5w_reader::{ReadBegin, ReaderCore, Step};
 use h5w_shared::{ReaderSeat, SharedImage};
 use std::alloc::{AllocFailed, Global};
 use std::sync::Wait;
-use std::thread;
-
-/// A reader leaves its processor after so many calls in a row at most that found nothing new.
-const FEW: u32 = 8;
 
 /// Why a reader ended before its last call.
 #[derive(Clone, Copy)]
@@ -167,18 +163,6 @@ fn told_after(told: Told, answer: &Poll) -> Told
     }
 }
 
-/// How many calls in a row have found nothing new, after one more. At the first of them the thread leaves its processor to others.
-fn rest(idle: u32, is_new: bool) -> u32 {
-    if is_new {
-        return 0;
-    }
-    if idle < FEW {
-        thread::yield_now();
-        return idle + 1;
-    }
-    idle
-}
-
 /// Begins the reader's next call, unless it has begun to open.
 fn begin(core: &mut ReaderCore, call: u32)
     requires { IsReady call (cores.reader core.old) }
@@ -213,7 +197,6 @@ fn polls_of<R: Wait, G: Gate>(
 {
     let mut lines = Vec::new(alloc);
     let mut told = Told { sum: 0 };
-    let mut idle = 0u32;
     for call in 0..calls {
         begin(core, call);
         let before = seat.seen();
@@ -228,7 +211,6 @@ fn polls_of<R: Wait, G: Gate>(
             answer,
         })?;
         gate.turn(reader, u64::from(call + 1));
-        idle = rest(idle, after > before);
     }
     Ok(lines)
 }

@@ -24,6 +24,21 @@ const LAST: u64 = 1 << 63;
 /// How often the next in line looks before it lets another thread run.
 const SPINS: u32 = 100;
 
+/// How often a patient seat looks before it lets another thread run.
+const LOOKS: u32 = 1_000;
+
+/// One that is not patient gives way at every so many-th try to draw before which another drew.
+const TRIES: u32 = 20;
+
+/// It gives way for so many turns of others at most.
+const TURNS: u64 = 64;
+
+/// And for so many breaths at most.
+const BREATHS: u32 = 150;
+
+/// A breath is so many pauses of the processor.
+const BREATH: u32 = 32;
+
 /// A seat at the table, with what it counts.
 #[derive(Drop)]
 pub struct Place {
@@ -36,6 +51,25 @@ pub struct Place {
     pub faults: u64,
     /// How many pieces it has seen.
     pub seen: u64,
+    /// How many tries to draw failed since it gave way.
+    pub tries: u32,
+}
+
+/// A patient seat that has looked so often in vain waits for its next look.
+fn pause(looks: u32) -> u32 {
+    if looks < LOOKS {
+        hint::spin_loop();
+        return looks + 1;
+    }
+    thread::yield_now();
+    0
+}
+
+/// Lets some time pass.
+fn breathe() {
+    for _ in 0..BREATH {
+        hint::spin_loop();
+    }
 }
 
 impl Place {
@@ -66,18 +100,50 @@ impl Place {
         ensures worn { OnOk result (self.old.worn ≡ false) }
         ensures refused { OnErr result (Refused self.old self.new) }
     {
+        let mut looks = 0u32;
         for _ in rt.forever() {
             if self.worn {
                 self.faults = self.faults.saturating_add(1);
                 return Err(Failed);
             }
             if patient && self.others_wait(shelf) {
-                thread::yield_now();
+                looks = pause(looks);
             } else if let Some(ticket) = self.try_draw(shelf) {
                 return Ok(ticket);
+            } else if !patient {
+                self.give_way(shelf);
             }
         }
         unreachable!()
+    }
+
+    /// Another has drawn before this seat. At some of such tries it draws nothing for a while, so that others take several turns in a row.
+    fn give_way(&mut self, shelf: &Shelf)
+        requires rest { AtRest self.old }
+        requires table { IsAt shelf.now.table_id self.old }
+        ensures same { Unchanged self.old self.new }
+    {
+        self.tries = self.tries.saturating_add(1);
+        if self.tries < TRIES {
+            return;
+        }
+        self.tries = 0;
+        let last = self.next.saturating_add(TURNS);
+        for _ in 0..BREATHS {
+            if self.served(shelf) >= last {
+                return;
+            }
+            breathe();
+        }
+    }
+
+    /// The ticket that is served, as far as this seat is shown.
+    fn served(&mut self, shelf: &Shelf) -> u64
+        requires rest { AtRest self.old }
+        requires table { IsAt shelf.now.table_id self.old }
+        ensures same { Unchanged self.old self.new }
+    {
+        shelf.load::<Tell>(&mut self.seat, SERVING)
     }
 
     /// Another has drawn a ticket that is not served to its end, as far as this seat was shown.
@@ -86,8 +152,7 @@ impl Place {
         requires table { IsAt shelf.now.table_id self.old }
         ensures same { Unchanged self.old self.new }
     {
-        let serving = shelf.load::<Tell>(&mut self.seat, SERVING);
-        self.next > serving
+        self.next > self.served(shelf)
     }
 
     /// Waits for a turn, and takes the store out. A patient seat draws no ticket while another has one.
@@ -139,6 +204,7 @@ impl Place {
             worn: false,
             faults: 0,
             seen: self.seen,
+            tries: 0,
         }
     }
 

@@ -88,6 +88,7 @@ impl WriterSeat {
                 worn: false,
                 faults: 0,
                 seen: 0,
+                tries: 0,
             },
             pieces: 0,
             end: 0,
