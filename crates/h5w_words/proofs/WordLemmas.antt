@@ -1,9 +1,8 @@
 -- What `clap` finds in words.
 use Rattle.std.proofs.Common.{◌≡◌, ◌≢◌, ◌⊎◌, ◌||◌, ◌∙◌, ◌+◌, ◌<◌, ◌++◌, ℕ, length, take, get_or, Bool, true, false, List, [], ◌∷◌, Option, Some, None, refl, sym, ap, ap₂, subst, inl, inr, option_map, add-one}
-use Rattle.std.specs.Prelude.{Box, IfErr, IfOk, IsErrAnd, Result, Ok, Err, map}
-use Rattle.std.specs.List.{All}
+use Rattle.std.specs.Prelude.{Box, IfErr, IsErrAnd, Result, Ok, Err, map}
 use Rattle.std.specs.Box.{box_value}
-use Rattle.clap.specs.Words.{AddsArg, AddsInTurn, App, HasKind, HasMatchesOf, Kinds, Row, Rule, Text, fault_of, first_of, first_value, app_of, is_simple, is_simple_and_free, kind_of, rows_of, rule_of, subcommand_name_of, subcommand_of, subcommand_rows, subcommand_rows_of}
+use Rattle.clap.specs.Words.{AddsArg, AddsSubcommand, App, HasKind, HasMatchesOf, Kinds, Row, Rule, Text, fault_of, first_of, first_value, app_of, is_simple, is_simple_and_free, kind_of, rows_of, rule_of, shape_of, subcommand_name_of, subcommand_of, subcommand_rows, subcommand_rows_of, with_rule, with_subcommand}
 use Rattle.clap.specs.declared.builder.arg.Arg.{Arg}
 use Rattle.clap.specs.declared.builder.command.Command.{Command}
 use Rattle.clap.specs.declared.error.Error.{Error}
@@ -12,16 +11,15 @@ use Rattle.clap.specs.declared.parser.matches.ArgMatches.{ArgMatches}
 use Rattle.clap.specs.declared.parser.matches.ArgMatches.TheViews.{out-ArgMatches, out-SubCommand}
 use Rattle.clap.specs.declared.parser.matches.Found.{Found}
 use Rattle.clap.specs.declared.parser.matches.SubCommand.{SubCommand}
-use Rattle.std.specs.declared.alloc.AllocError.{AllocError}
 use Rattle.std.proofs.Math.Seq.{take-suc}
 use Rattle.std.proofs.lemmas.List.{map-append}
-use Rattle.std.proofs.lemmas.List.Elements.{All-head, All-tail}
 use Rattle.clap.proofs.OnLiterals.{clap_on_literals}
 use Rattle.clap.proofs.WalkLemmas.{first_value-rows}
-use Rattle.h5w_words.specs.Arguments.{IsLocal, Makes, has_globals, rule_named, with_rules}
+use Rattle.h5w_words.specs.Arguments.{IsLocal, has_globals, rule_named, with_rules}
 use Rattle.h5w_words.specs.declared.arguments.Argument.{Argument}
-use Rattle.h5w_words.specs.Commands.{asked_of, job_of, program, without_fault}
+use Rattle.h5w_words.specs.Commands.{app_known, asked_of, job_of, program, with_known, without_fault}
 use Rattle.h5w_words.specs.declared.job.Job.{Job}
+use Rattle.h5w_words.specs.declared.words.Known.{Known}
 use Rattle.h5w_words.specs.declared.job.WordsError.{WordsError}
 use Rattle.h5w_words.specs.declared.job.WordsError.TheVariants as words_errors
 
@@ -29,36 +27,39 @@ or_false : (a b : Bool) → b ≡ false → (a || b) ≡ a
 or_false true b h = refl
 or_false false b h = h
 
--- arguments that are added in turn, none of them global
-pub rules_added : (old : Command) (args : List Arg) (new : Command) → AddsInTurn AddsArg old args new → All IsLocal args → (app_of new ≡ with_rules (app_of old) (map rule_of args)) × (has_globals new ≡ has_globals old)
-rules_added old [] new same local = (ap app_of (sym same), ap has_globals (sym same))
-rules_added old (a ∷ rest) new (m, added, others) local =
-    let first = All-head IsLocal a rest local in
-    let more = rules_added m rest new others (All-tail IsLocal a rest local) in
-    (more.0 ∙ ap (λ b. with_rules b (map rule_of rest)) (added.shape first), more.1 ∙ (added.globals ∙ or_false (has_globals old) a.global first))
+with_rules_end : (app : App) (rules : List Rule) (rule : Rule) → with_rules app (rules ++ rule ∷ []) ≡ with_rule (with_rules app rules) rule
+with_rules_end app [] rule = refl
+with_rules_end app (first ∷ rest) rule = with_rules_end (with_rule app first) rest rule
+
+-- a list's first elements, and the next of them
+next_of : {T : Type 0} (table : List T) (i : ℕ) (d : T) → i < length table → take (i + 1) table ≡ take i table ++ get_or table i d ∷ []
+next_of table i d inside = subst (λ n. take n table ≡ take i table ++ get_or table i d ∷ []) (sym (add-one i)) (take-suc table i d inside)
 
 -- one more argument of a table
-pub listed : (args : List Arg) (a : Arg) (table : List Argument) (i : ℕ) (d : Argument) → i < length table → map rule_of args ≡ map rule_named (take i table) → rule_of a ≡ rule_named (get_or table i d)
-    → map rule_of (args ++ a ∷ []) ≡ map rule_named (take (i + 1) table)
-listed args a table i d inside before same =
-    let more : take (i + 1) table ≡ take i table ++ get_or table i d ∷ [] = subst (λ n. take n table ≡ take i table ++ get_or table i d ∷ []) (sym (add-one i)) (take-suc table i d inside) in
-    map-append rule_of args (a ∷ []) ∙ ap₂ (λ (x y : List Rule). x ++ y) before (ap (λ (r : Rule). r ∷ []) same) ∙ sym (map-append rule_named (take i table) (get_or table i d ∷ [])) ∙ ap (map rule_named) (sym more)
+pub one_more : (old made new : Command) (a : Arg) (table : List Argument) (i : ℕ) (d : Argument) → i < length table
+    → (app_of made ≡ with_rules (app_of old) (map rule_named (take i table))) × (has_globals made ≡ has_globals old)
+    → AddsArg made a new → rule_of a ≡ rule_named (get_or table i d) → IsLocal a
+    → (app_of new ≡ with_rules (app_of old) (map rule_named (take (i + 1) table))) × (has_globals new ≡ has_globals old)
+one_more old made new a table i d inside before added same local =
+    let rules : map rule_named (take (i + 1) table) ≡ map rule_named (take i table) ++ rule_named (get_or table i d) ∷ [] =
+    ap (map rule_named) (next_of table i d inside) ∙ map-append rule_named (take i table) (get_or table i d ∷ []) in
+    let shape : app_of new ≡ with_rule (with_rules (app_of old) (map rule_named (take i table))) (rule_named (get_or table i d)) =
+    added.shape local ∙ ap₂ with_rule before.0 same in
+    let table_so_far = with_rules_end (app_of old) (map rule_named (take i table)) (rule_named (get_or table i d)) in
+    (shape ∙ sym table_so_far ∙ ap (with_rules (app_of old)) (sym rules), added.globals ∙ or_false (has_globals made) a.global local ∙ before.1)
 
--- a command to which they are added, if it is
-pub all_added : (r : Result Command AllocError) (old : Command) (args : List Arg) (rules : List Rule) → map rule_of args ≡ rules → All IsLocal args → IfOk r (λ c. AddsInTurn AddsArg old args c)
-    → IfOk r (λ c. app_of c ≡ with_rules (app_of old) rules) × IfOk r (λ c. has_globals c ≡ has_globals old)
-all_added (Ok c) old args rules same local added = subst (λ l. (app_of c ≡ with_rules (app_of old) l) × (has_globals c ≡ has_globals old)) same (rules_added old args c added local)
-all_added (Err e) old args rules same local added = (tt, tt)
+with_known_end : (app : App) (table : List Known) (command : Known) → with_known app (table ++ command ∷ []) ≡ with_subcommand (with_known app table) (app_known command).top
+with_known_end app [] command = refl
+with_known_end app (first ∷ rest) command = with_known_end (with_subcommand app (app_known first).top) rest command
 
--- a command that is made, by its arguments
-pub made : (r : Result Command AllocError) (app : App) → IfOk r (λ c. app_of c ≡ app) → IfOk r (λ c. has_globals c ≡ false) → Makes r app
-made (Ok c) app is local = (is, local)
-made (Err e) app is local = tt
-
--- what is made, without its arguments' reach
-pub app_made : (r : Result Command AllocError) (app : App) → Makes r app → IfOk r (λ c. app_of c ≡ app)
-app_made (Ok c) app h = h.0
-app_made (Err e) app h = tt
+-- one more command of a table
+pub one_more_known : (old : App) (made sub new : Command) (table : List Known) (i : ℕ) (d : Known) → i < length table → (app_of made ≡ with_known old (take i table)) × (has_globals made ≡ false)
+    → AddsSubcommand made sub new → app_of sub ≡ app_known (get_or table i d) → has_globals sub ≡ false
+    → (app_of new ≡ with_known old (take (i + 1) table)) × (has_globals new ≡ false)
+one_more_known old made sub new table i d inside before added same local =
+    let top : shape_of sub ≡ (app_known (get_or table i d)).top = ap (λ a. a.top) same in
+    let shape : app_of new ≡ with_subcommand (with_known old (take i table)) (app_known (get_or table i d)).top = added.shape local ∙ ap₂ with_subcommand before.0 top in
+    (shape ∙ sym (with_known_end old (take i table) (get_or table i d)) ∙ ap (with_known old) (sym (next_of table i d inside)), added.globals ∙ or_false (has_globals made) (has_globals sub) local ∙ before.1)
 
 -- the text that is found for an id is that of its row
 pub first_text : (f : Found) (id : Text) → first_value f id ≡ first_of id (rows_of f)

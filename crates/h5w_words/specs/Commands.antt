@@ -10,12 +10,32 @@ use Rattle.h5w_words.specs.Repacks.{repack_app, repack_of}
 use Rattle.h5w_words.specs.Lives.{live_app, live_of}
 use Rattle.h5w_words.specs.Stops.{stop_app, stop_of}
 use Rattle.h5w_words.specs.declared.job.Job.{Job}
+use Rattle.h5w_words.specs.declared.words.Known.{Known}
+use Rattle.h5w_words.specs.declared.words.Known.TheVariants as commands
 
 -- the program with its commands
 abbrev pub program : App
 program =
     with_subcommand (with_subcommand (with_subcommand (with_subcommand (with_subcommand (with_subcommand (with_subcommand (with_subcommand (with_subcommand (with_subcommand (new_app (codes "h5swmr")) play_app.top) creating_app.top) check_app.top)
     poll_app.top) clear_app.top) make_app.top) append_app.top) live_app.top) stop_app.top) repack_app.top
+
+-- a command of the program
+abbrev pub app_known : Known → App
+app_known commands.Play = play_app
+app_known commands.New = creating_app
+app_known commands.Check = check_app
+app_known commands.Poll = poll_app
+app_known commands.Clear = clear_app
+app_known commands.Make = make_app
+app_known commands.Append = append_app
+app_known commands.Live = live_app
+app_known commands.Stop = stop_app
+app_known commands.Repack = repack_app
+
+-- a program with these commands more, in order
+abbrev pub with_known : App → List Known → App
+with_known app [] = app
+with_known app (command ∷ rest) = with_known (with_subcommand app (app_known command).top) rest
 
 -- what a command of this name asks for, by its options
 abbrev pub named_of : Text → List Row → Option Job

@@ -1,11 +1,13 @@
--- By what a file is created: --type T --chunk R [--columns M --width C [--fixed]] [--fill V] [--name N] [--limit B] [--budget G]
-use Rattle.std.specs.Prelude.{ℕ, ◌*◌, ◌^◌, Bool, true, false, nat_le, nat_lt, if◌then◌else◌, List, Option, Some, None, option_map, option_and_then, codes, ℤ}
+-- By what a file is created: --type T --chunk R [--columns M --width C [--fixed]] [--fill V] [--name N,..] [--limit B] [--budget G]
+use Rattle.std.specs.Prelude.{ℕ, ◌*◌, ◌^◌, Bool, true, false, nat_le, nat_lt, if◌then◌else◌, List, [], length, get_or, Option, Some, None, option_map, option_and_then, codes, ℤ}
+use Rattle.std.specs.List.{list_all}
 use Rattle.clap.specs.Words.{App, Row, Text, first_of, with_rule}
 use Rattle.h5w_options.specs.Options.{width_in}
 use Rattle.h5w_options.specs.declared.options.Options.{Options}
 use Rattle.h5w_types.specs.Fields.{int_type_of}
 use Rattle.h5w_types.specs.declared.int_type.IntType.{IntType}
-use Rattle.h5w_words.specs.Arguments.{count_given, count_or, flag_rule, is_given, name_or, option_rule}
+use Rattle.h5w_words.specs.Arguments.{count_given, count_or, flag_rule, is_given, link_names_or, name_or, option_rule}
+use Rattle.h5w_words.specs.Names.{is_name}
 use Rattle.h5w_words.specs.Types.{fill_given, type_named}
 
 -- a command with the arguments that a file is created by
@@ -80,3 +82,19 @@ options_by rows name = option_and_then (λ t. named_options rows name t) (type_o
 -- the options of a file that is created
 abbrev pub options_of : List Row → Option Options
 options_of rows = option_and_then (options_by rows) (name_of rows)
+
+-- ---- Several datasets
+
+-- the names of the root group's links to 1 to 8 datasets; where none is given, data alone
+abbrev pub link_names_of : List Row → Option (List Text)
+link_names_of rows = link_names_or (codes "data") (first_of (codes "name") rows)
+
+-- a file of so many bytes lacks room for its names: each takes 1,024
+abbrev pub lacks_room : ℕ → List Text → Bool
+lacks_room limit names = nat_lt limit (1024 * length names)
+
+-- The options of a file with datasets of these names, under the first of them: each is a name of a dataset, and the limit is 1,024 bytes a
+-- name at least.
+abbrev pub options_within : List Row → List Text → Option Options
+options_within rows names =
+    if list_all is_name names then option_and_then (λ o. if lacks_room o.limit names then None else Some o) (options_by rows (get_or names 0 [])) else None

@@ -1,11 +1,8 @@
 -- The commands on files: new FILE OPTS, OPTS being what a file is created by, check FILE [--name N,..], poll FILE [--name N] [--times T] [--attempts A] [--values], clear FILE [--upgrade]
-use Rattle.std.specs.Prelude.{ℕ, ◌*◌, Bool, false, List, [], length, get_or, nat_lt, if◌then◌else◌, Option, Some, None, option_map, option_and_then, codes}
-use Rattle.std.specs.List.{list_all}
+use Rattle.std.specs.Prelude.{ℕ, false, List, if◌then◌else◌, Option, Some, None, option_map, option_and_then, codes}
 use Rattle.clap.specs.Words.{App, Row, Text, first_of, new_app, with_rule}
-use Rattle.h5w_words.specs.Arguments.{count_or, flag_rule, is_given, link_name_or, link_names_or, option_rule, word_rule}
-use Rattle.h5w_options.specs.declared.options.Options.{Options}
-use Rattle.h5w_words.specs.Creation.{options_by, with_creation}
-use Rattle.h5w_words.specs.Names.{is_name}
+use Rattle.h5w_words.specs.Arguments.{count_or, flag_rule, is_given, link_name_or, option_rule, word_rule}
+use Rattle.h5w_words.specs.Creation.{lacks_room, link_names_of, options_within, with_creation}
 use Rattle.h5w_words.specs.Play.{attempts_of}
 use Rattle.h5w_words.specs.declared.job.Job.{Job}
 use Rattle.h5w_words.specs.declared.job.Job.TheVariants.{New, Check, Poll, Clear}
@@ -32,14 +29,6 @@ file_of rows = first_of (codes "FILE") rows
 abbrev pub link_name_of : List Row → Option Text
 link_name_of rows = link_name_or (codes "data") (first_of (codes "name") rows)
 
--- the names of the root group's links to 1 to 8 datasets; where none is given, data alone
-abbrev pub link_names_of : List Row → Option (List Text)
-link_names_of rows = link_names_or (codes "data") (first_of (codes "name") rows)
-
--- a file of so many bytes lacks room for its names: each takes 1,024
-abbrev pub lacks_room : ℕ → List Text → Bool
-lacks_room limit names = nat_lt limit (1024 * length names)
-
 -- the names of links, for which a file of so many bytes has room
 abbrev pub names_within : List Row → ℕ → Option (List Text)
 names_within rows limit = option_and_then (λ names. if lacks_room limit names then None else Some names) (link_names_of rows)
@@ -48,16 +37,8 @@ names_within rows limit = option_and_then (λ names. if lacks_room limit names t
 abbrev pub times_of : List Row → Option ℕ
 times_of rows = count_or 1 1 1000000 (first_of (codes "times") rows)
 
--- a file of these names, whose limit is 1,024 bytes a name at least
-abbrev pub new_of : Text → List Text → Options → Option Job
-new_of file names o = if lacks_room o.limit names then None else Some (New file names o)
-
--- the same by what else is given
-abbrev pub new_named : List Row → Text → List Text → Option Job
-new_named rows file names = if list_all is_name names then option_and_then (new_of file names) (options_by rows (get_or names 0 [])) else None
-
 abbrev pub creating_of : List Row → Option Job
-creating_of rows = option_and_then (λ file. option_and_then (new_named rows file) (link_names_of rows)) (file_of rows)
+creating_of rows = option_and_then (λ file. option_and_then (λ names. option_map (λ options. New file names options) (options_within rows names)) (link_names_of rows)) (file_of rows)
 
 abbrev pub check_of : List Row → Option Job
 check_of rows = option_and_then (λ file. option_map (λ names. Check file names) (link_names_of rows)) (file_of rows)

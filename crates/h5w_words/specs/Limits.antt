@@ -6,7 +6,7 @@ use Rattle.h5w_words.specs.declared.job.Job.{Job}
 use Rattle.h5w_words.specs.declared.job.Job.TheVariants.{Play, New, Check, Poll, Clear, Make, Append, Live, Stop, Repack}
 
 abbrev pub IsWithinLimits : Job → Type 0
-IsWithinLimits (Play options attempts) = AreOptions options × AreAttempts attempts
+IsWithinLimits (Play names options attempts) = AreOptions options × AreAttempts attempts × (are_names names ≡ true) × (1024 * length names ≤ options.limit)
 IsWithinLimits (New file names options) = AreOptions options × (are_names names ≡ true) × (1024 * length names ≤ options.limit)
 IsWithinLimits (Check file names) = (1 ≤ length names) × (length names ≤ 8)
 IsWithinLimits (Poll file name times attempts values) = (1 ≤ times) × AreAttempts attempts

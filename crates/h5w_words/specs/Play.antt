@@ -2,7 +2,7 @@
 use Rattle.std.specs.Prelude.{ℕ, false, List, Option, option_map, option_and_then, codes}
 use Rattle.clap.specs.Words.{App, Row, first_of, new_app, with_rule}
 use Rattle.h5w_words.specs.Arguments.{count_or, option_rule}
-use Rattle.h5w_words.specs.Creation.{options_of, with_creation}
+use Rattle.h5w_words.specs.Creation.{link_names_of, options_within, with_creation}
 use Rattle.h5w_words.specs.declared.job.Job.{Job}
 use Rattle.h5w_words.specs.declared.job.Job.TheVariants.{Play}
 
@@ -15,4 +15,5 @@ attempts_of rows = count_or 8 1 1000 (first_of (codes "attempts") rows)
 
 -- the script that the command's options ask for
 abbrev pub play_of : List Row → Option Job
-play_of rows = option_and_then (λ attempts. option_map (λ options. Play options attempts) (options_of rows)) (attempts_of rows)
+play_of rows =
+    option_and_then (λ attempts. option_and_then (λ names. option_map (λ options. Play names options attempts) (options_within rows names)) (link_names_of rows)) (attempts_of rows)

@@ -52,10 +52,14 @@ pub fn append_job(alloc: Global, options: &ArgMatches<'_>) -> Result<Job, WordsE
     ensures usage { IfErr result (λ e. (e ≡ WordsError.OutOfMemory) ⊎ (append_of (rows_of (found_of options.now)) ≡ None)) }
     ensures limits { IfOk result IsWithinLimits }
 {
-    let limit = limit_given(options).ok_or(WordsError::Usage)?;
+    let Some(limit) = limit_given(options) else {
+        return Err(WordsError::Usage);
+    };
     let file = file_given(alloc, options)?;
     let names = names_within(alloc, options, limit)?;
-    let budget = budget_for(options, &names).ok_or(WordsError::Usage)?;
+    let Some(budget) = budget_for(options, &names) else {
+        return Err(WordsError::Usage);
+    };
     Ok(Job::Append {
         file,
         names,

@@ -1,6 +1,5 @@
 //! The kinds of argument that a command may have.
 ghost use Rattle.std.specs.Prelude.{◌≡◌, false, map, IfOk};
-ghost use Rattle.std.specs.List.{All};
 ghost use Rattle.clap.specs.Words.{app_of, rule_of};
 ghost use Rattle.h5w_words.specs.Arguments.{IsLocal, has_globals, rule_named, with_rules};
 
@@ -33,18 +32,6 @@ fn arg<'a>(alloc: Global, argument: Argument<'a>) -> Arg<'a>
     }
 }
 
-/// The arguments of a table, in order.
-fn listed<'a>(alloc: Global, table: &[Argument<'a>]) -> Result<Vec<Arg<'a>>, AllocError>
-    ensures rules { IfOk result (λ args. map rule_of args.items ≡ map rule_named table.now) }
-    ensures local { IfOk result (λ args. All IsLocal args.items) }
-{
-    let mut args = Vec::new(alloc);
-    for argument in table {
-        args.push(arg(alloc, *argument))?;
-    }
-    Ok(args)
-}
-
 /// Adds the arguments of a table, in order.
 pub fn with_arguments<'a>(
     alloc: Global,
@@ -54,6 +41,12 @@ pub fn with_arguments<'a>(
     ensures shape { IfOk result (λ c. app_of c ≡ with_rules (app_of command.entry) (map rule_named table.now)) }
     ensures globals { IfOk result (λ c. has_globals c ≡ has_globals command.entry) }
 {
-    let args = listed(alloc, table)?;
-    command.args(args)
+    let mut made = command;
+    for argument in table {
+        let Ok(longer) = made.arg(arg(alloc, *argument)) else {
+            return Err(AllocError);
+        };
+        made = longer;
+    }
+    Ok(made)
 }

@@ -1,19 +1,22 @@
 //! By what a file is created.
-ghost use Rattle.std.specs.Prelude.{◌≡◌, ◌*◌, ◌≤◌, ◌⊎◌, None, Some, IfErr, IfOk, IfSome, IsSome, IsTrue, length};
+ghost use Rattle.std.specs.Prelude.{◌≡◌, ◌*◌, ◌≤◌, ◌⊎◌, true, [], None, Some, IfErr, IfOk, IfSome, IsSome, IsTrue, get_or, length};
 ghost use Rattle.h5w_model.specs.Messages.{IsIntType};
 ghost use Rattle.h5w_options.specs.Options.{AreColumns, AreOptions, columns_in, width_in};
 ghost use Rattle.h5w_types.specs.Fields.{int_type_of};
 ghost use Rattle.clap.specs.Words.{app_of, found_of, rows_of};
 ghost use Rattle.h5w_words.specs.Arguments.{has_globals};
-ghost use Rattle.h5w_words.specs.Creation.{columns_of, fixed_of, named_options, options_by, options_of, type_of, with_creation};
+ghost use Rattle.h5w_words.specs.Creation.{columns_of, fixed_of, lacks_room, link_names_of, named_options, options_by, options_of, options_within, type_of, with_creation};
+ghost use Rattle.h5w_words.specs.Names.{are_link_names, are_names};
 
 use crate::arguments::Argument::{Flag, Needed, Optional};
 use crate::arguments::with_arguments;
 use crate::job::WordsError;
+use crate::names::{are_names, link_names};
 use crate::types::{fill_given, type_named};
 use crate::values::{budget_given, count, is_given, limit_given, name_or, text};
 use clap::{ArgMatches, Command};
 use h5w_model::Bytes;
+use h5w_names::Names;
 use h5w_options::{IntType, Options};
 use std::alloc::{AllocError, Global};
 
@@ -22,6 +25,9 @@ const SIDE: u64 = 65_536;
 
 /// The most bytes of a chunk.
 const CHUNK: u64 = 16_777_216;
+
+/// The least limit of a file for each of its names.
+const EACH: u64 = 1024;
 
 /// The arguments that a file is created by.
 pub fn creation<'a>(alloc: Global, command: Command<'a>) -> Result<Command<'a>, AllocError>
@@ -110,12 +116,18 @@ fn numbers_given(
     ensures usage { IfErr result (λ e. named_options (rows_of (found_of options.now)) name int_type ≡ None) }
     ensures limits { IfOk result AreOptions }
 {
-    let chunk_rows = count(options, "chunk", 1, SIDE).ok_or(WordsError::Usage)?;
-    let columns = columns_given(options).ok_or(WordsError::Usage)?;
-    let fixed = fixed_given(options, columns).ok_or(WordsError::Usage)?;
-    let fill = fill_given(text(options, "fill"), &int_type).ok_or(WordsError::Usage)?;
-    let limit = limit_given(options).ok_or(WordsError::Usage)?;
-    let budget = budget_given(options).ok_or(WordsError::Usage)?;
+    let (Some(chunk_rows), Some(columns), Some(fill), Some(limit), Some(budget)) = (
+        count(options, "chunk", 1, SIDE),
+        columns_given(options),
+        fill_given(text(options, "fill"), &int_type),
+        limit_given(options),
+        budget_given(options),
+    ) else {
+        return Err(WordsError::Usage);
+    };
+    let Some(fixed) = fixed_given(options, columns) else {
+        return Err(WordsError::Usage);
+    };
     let options = Options {
         name,
         int_type,
@@ -161,4 +173,62 @@ pub fn options_given(alloc: Global, options: &ArgMatches<'_>) -> Result<Options,
         return Err(WordsError::Usage);
     };
     options_named(alloc, options, name.as_bytes())
+}
+
+/// The names of the root group's links to the datasets; `Usage` where they are not 1 to 8 names of links, or one stands twice.
+pub fn link_names_given(alloc: Global, options: &ArgMatches<'_>) -> Result<Names, WordsError>
+    ensures ok { IfOk result (λ names. link_names_of (rows_of (found_of options.now)) ≡ Some names) }
+    ensures usage { IfErr result (λ e. (e ≡ WordsError.OutOfMemory) ⊎ (link_names_of (rows_of (found_of options.now)) ≡ None)) }
+    ensures bounds { IfOk result (λ names. (1 ≤ length names) × (length names ≤ 8)) }
+    ensures sound { IfOk result (λ names. are_link_names names ≡ true) }
+{
+    match text(options, "name") {
+        Some(text) => link_names(alloc, text),
+        None => Ok(Names::of(alloc, b"data")?),
+    }
+}
+
+/// Whether a file of so many bytes lacks room for its names.
+pub fn lacks_room(limit: u64, names: &Names) -> bool
+    requires { length names.now ≤ 8 }
+    ensures { result ≡ lacks_room limit names.now }
+{
+    limit < EACH * names.len() as u64
+}
+
+/// The first of these names.
+fn first_of(names: &Names) -> &[u8]
+    requires { 1 ≤ length names.now }
+    ensures { result.now ≡ get_or names.now 0 [] }
+{
+    match names.get(0) {
+        Some(name) => name,
+        None => unreachable!(),
+    }
+}
+
+/// What the options say of a file with datasets of these names, under the first of them; `Usage` where one is no name of a dataset, the limit is
+/// below 1,024 bytes a name, or they are outside the command set.
+pub fn options_within(
+    alloc: Global,
+    options: &ArgMatches<'_>,
+    names: &Names,
+) -> Result<Options, WordsError>
+    requires links { are_link_names names.now ≡ true }
+    requires some { 1 ≤ length names.now }
+    requires few { length names.now ≤ 8 }
+    ensures ok { IfOk result (λ o. options_within (rows_of (found_of options.now)) names.now ≡ Some o) }
+    ensures usage { IfErr result (λ e. (e ≡ WordsError.OutOfMemory) ⊎ (options_within (rows_of (found_of options.now)) names.now ≡ None)) }
+    ensures limits { IfOk result AreOptions }
+    ensures names { IfOk result (λ o. are_names names.now ≡ true) }
+    ensures room { IfOk result (λ o. 1024 * length names.now ≤ o.limit) }
+{
+    if !are_names(names) {
+        return Err(WordsError::Usage);
+    }
+    let given = options_named(alloc, options, first_of(names))?;
+    if lacks_room(given.limit, names) {
+        return Err(WordsError::Usage);
+    }
+    Ok(given)
 }

@@ -1,25 +1,21 @@
 //! The commands on files.
-ghost use Rattle.std.specs.Prelude.{◌≡◌, ◌*◌, ◌≤◌, ◌⊎◌, false, true, [], None, Some, IfErr, IfOk, get_or, length};
+ghost use Rattle.std.specs.Prelude.{◌≡◌, ◌*◌, ◌≤◌, ◌⊎◌, false, true, None, Some, IfErr, IfOk, length};
 ghost use Rattle.clap.specs.Words.{app_of, found_of, rows_of};
 ghost use Rattle.h5w_words.specs.Arguments.{has_globals};
-ghost use Rattle.h5w_words.specs.Files.{check_app, check_of, clear_app, clear_of, creating_app, creating_of, file_of, lacks_room, link_name_of, link_names_of, names_within, new_named, poll_app, poll_numbers_of, poll_of};
+ghost use Rattle.h5w_words.specs.Files.{check_app, check_of, clear_app, clear_of, creating_app, creating_of, file_of, link_name_of, names_within, poll_app, poll_numbers_of, poll_of};
 ghost use Rattle.h5w_words.specs.Limits.{IsWithinLimits};
 ghost use Rattle.h5w_words.specs.Names.{are_link_names};
 
 use crate::arguments::Argument::{Flag, Optional, Word};
 use crate::arguments::with_arguments;
-use crate::creation::{creation, options_named};
+use crate::creation::{creation, lacks_room, link_names_given, options_within};
 use crate::file::FileName;
 use crate::job::{Job, WordsError};
-use crate::names::{are_names, link_names};
 use crate::values::{attempts_given, count_or, is_given, link_name_or, text};
 use clap::{ArgMatches, Command};
 use h5w_model::Bytes;
 use h5w_names::Names;
 use std::alloc::{AllocError, Global};
-
-/// The least limit of a file for each of its names.
-const EACH: u64 = 1024;
 
 /// The command that makes a file, with its arguments.
 pub fn creating<'a>(alloc: Global) -> Result<Command<'a>, AllocError>
@@ -27,7 +23,9 @@ pub fn creating<'a>(alloc: Global) -> Result<Command<'a>, AllocError>
     ensures local { IfOk result (λ c. has_globals c ≡ false) }
 {
     let command = Command::new(alloc, "new");
-    let command = with_arguments(alloc, command, &[Word("FILE")])?;
+    let Ok(command) = with_arguments(alloc, command, &[Word("FILE")]) else {
+        return Err(AllocError);
+    };
     creation(alloc, command)
 }
 
@@ -91,27 +89,6 @@ pub fn link_name_given(alloc: Global, options: &ArgMatches<'_>) -> Result<Bytes,
     Ok(Bytes::from_vec(Vec::from_slice(alloc, name.as_bytes())?))
 }
 
-/// The names of the root group's links to the datasets; `Usage` where they are not 1 to 8 names of links, or one stands twice.
-fn link_names_given(alloc: Global, options: &ArgMatches<'_>) -> Result<Names, WordsError>
-    ensures ok { IfOk result (λ names. link_names_of (rows_of (found_of options.now)) ≡ Some names) }
-    ensures usage { IfErr result (λ e. (e ≡ WordsError.OutOfMemory) ⊎ (link_names_of (rows_of (found_of options.now)) ≡ None)) }
-    ensures bounds { IfOk result (λ names. (1 ≤ length names) × (length names ≤ 8)) }
-    ensures sound { IfOk result (λ names. are_link_names names ≡ true) }
-{
-    match text(options, "name") {
-        Some(text) => link_names(alloc, text),
-        None => Ok(Names::of(alloc, b"data")?),
-    }
-}
-
-/// Whether a file of so many bytes lacks room for its names.
-fn lacks_room(limit: u64, names: &Names) -> bool
-    requires { length names.now ≤ 8 }
-    ensures { result ≡ lacks_room limit names.now }
-{
-    limit < EACH * names.len() as u64
-}
-
 /// The names of the root group's links to the datasets of a file of at most `limit` bytes; `Usage` where they are not
 /// 1 to 8 names of links, or one stands twice, or the limit is below 1,024 bytes a name.
 pub fn names_within(
@@ -131,45 +108,6 @@ pub fn names_within(
     Ok(names)
 }
 
-/// The first of these names.
-fn first_of(names: &Names) -> &[u8]
-    requires { 1 ≤ length names.now }
-    ensures { result.now ≡ get_or names.now 0 [] }
-{
-    match names.get(0) {
-        Some(name) => name,
-        None => unreachable!(),
-    }
-}
-
-/// The new file of these names that the options ask for; `Usage` where they are outside the command set.
-fn creating_named(
-    alloc: Global,
-    options: &ArgMatches<'_>,
-    file: FileName,
-    names: Names,
-) -> Result<Job, WordsError>
-    requires links { are_link_names names ≡ true }
-    requires some { 1 ≤ length names }
-    requires few { length names ≤ 8 }
-    ensures ok { IfOk result (λ job. new_named (rows_of (found_of options.now)) file names ≡ Some job) }
-    ensures usage { IfErr result (λ e. (e ≡ WordsError.OutOfMemory) ⊎ (new_named (rows_of (found_of options.now)) file names ≡ None)) }
-    ensures limits { IfOk result IsWithinLimits }
-{
-    if !are_names(&names) {
-        return Err(WordsError::Usage);
-    }
-    let given = options_named(alloc, options, first_of(&names))?;
-    if lacks_room(given.limit, &names) {
-        return Err(WordsError::Usage);
-    }
-    Ok(Job::New {
-        file,
-        names,
-        options: given,
-    })
-}
-
 /// The new file that the arguments ask for; `Usage` where they are outside the command set.
 pub fn creating_job(alloc: Global, options: &ArgMatches<'_>) -> Result<Job, WordsError>
     ensures ok { IfOk result (λ job. creating_of (rows_of (found_of options.now)) ≡ Some job) }
@@ -178,7 +116,12 @@ pub fn creating_job(alloc: Global, options: &ArgMatches<'_>) -> Result<Job, Word
 {
     let file = file_given(alloc, options)?;
     let names = link_names_given(alloc, options)?;
-    creating_named(alloc, options, file, names)
+    let options = options_within(alloc, options, &names)?;
+    Ok(Job::New {
+        file,
+        names,
+        options,
+    })
 }
 
 /// The check that the arguments ask for; `Usage` where they are outside the command set.
@@ -199,8 +142,12 @@ fn poll_named(options: &ArgMatches<'_>, file: FileName, name: Bytes) -> Result<J
     ensures usage { IfErr result (λ e. poll_numbers_of (rows_of (found_of options.now)) file name ≡ None) }
     ensures limits { IfOk result IsWithinLimits }
 {
-    let times = count_or(options, "times", 1, 1, 1_000_000).ok_or(WordsError::Usage)?;
-    let attempts = attempts_given(options).ok_or(WordsError::Usage)?;
+    let (Some(times), Some(attempts)) = (
+        count_or(options, "times", 1, 1, 1_000_000),
+        attempts_given(options),
+    ) else {
+        return Err(WordsError::Usage);
+    };
     Ok(Job::Poll {
         file,
         name,

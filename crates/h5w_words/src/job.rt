@@ -11,7 +11,9 @@ use thiserror::Error;
 pub enum Job {
     /// Runs a script of a writer and readers.
     Play {
-        /// By what the file is created. The name has letters, digits and underscores alone.
+        /// The datasets' names, 1 to 8 of 1 to 64 letters, digits and underscores each; none stands twice.
+        names: Names,
+        /// By what the file is created, under the first of the names. The limit is 1,024 bytes a name at least.
         options: Options,
         /// How many attempts a reader's call makes at most, 1 to 1,000.
         attempts: u32,

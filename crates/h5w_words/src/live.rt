@@ -19,7 +19,9 @@ pub fn live<'a>(alloc: Global) -> Result<Command<'a>, AllocError>
     ensures local { IfOk result (λ c. has_globals c ≡ false) }
 {
     let command = Command::new(alloc, "live");
-    let command = creation(alloc, command)?;
+    let Ok(command) = creation(alloc, command) else {
+        return Err(AllocError);
+    };
     with_arguments(
         alloc,
         command,
@@ -38,10 +40,14 @@ pub fn live_job(alloc: Global, options: &ArgMatches<'_>) -> Result<Job, WordsErr
     ensures usage { IfErr result (λ e. (e ≡ WordsError.OutOfMemory) ⊎ (live_of (rows_of (found_of options.now)) ≡ None)) }
     ensures limits { IfOk result IsWithinLimits }
 {
-    let readers = count(options, "readers", 1, 16).ok_or(WordsError::Usage)?;
-    let polls = count(options, "polls", 1, 10_000).ok_or(WordsError::Usage)?;
-    let attempts = attempts_given(options).ok_or(WordsError::Usage)?;
-    let mirrors = count_or(options, "mirrors", 0, 0, 16).ok_or(WordsError::Usage)?;
+    let (Some(readers), Some(polls), Some(attempts), Some(mirrors)) = (
+        count(options, "readers", 1, 16),
+        count(options, "polls", 1, 10_000),
+        attempts_given(options),
+        count_or(options, "mirrors", 0, 0, 16),
+    ) else {
+        return Err(WordsError::Usage);
+    };
     let options = options_given(alloc, options)?;
     Ok(Job::Live {
         options,

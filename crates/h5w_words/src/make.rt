@@ -30,7 +30,11 @@ pub fn make_job(options: &ArgMatches<'_>) -> Result<Job, WordsError>
     ensures usage { IfErr result (λ e. make_of (rows_of (found_of options.now)) ≡ None) }
     ensures limits { IfOk result IsWithinLimits }
 {
-    let n = count(options, "N", 0, LIMIT).ok_or(WordsError::Usage)?;
-    let seed = count(options, "SEED", 0, u64::MAX).ok_or(WordsError::Usage)?;
+    let Some(n) = count(options, "N", 0, LIMIT) else {
+        return Err(WordsError::Usage);
+    };
+    let Some(seed) = count(options, "SEED", 0, u64::MAX) else {
+        return Err(WordsError::Usage);
+    };
     Ok(Job::Make { count: n, seed })
 }

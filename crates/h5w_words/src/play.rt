@@ -7,7 +7,7 @@ ghost use Rattle.h5w_words.specs.Play.{play_app, play_of};
 
 use crate::arguments::Argument::Optional;
 use crate::arguments::with_arguments;
-use crate::creation::{creation, options_given};
+use crate::creation::{creation, link_names_given, options_within};
 use crate::job::{Job, WordsError};
 use crate::values::attempts_given;
 use clap::{ArgMatches, Command};
@@ -19,7 +19,9 @@ pub fn play<'a>(alloc: Global) -> Result<Command<'a>, AllocError>
     ensures local { IfOk result (λ c. has_globals c ≡ false) }
 {
     let command = Command::new(alloc, "play");
-    let command = creation(alloc, command)?;
+    let Ok(command) = creation(alloc, command) else {
+        return Err(AllocError);
+    };
     with_arguments(alloc, command, &[Optional("attempts")])
 }
 
@@ -29,7 +31,14 @@ pub fn play_job(alloc: Global, options: &ArgMatches<'_>) -> Result<Job, WordsErr
     ensures usage { IfErr result (λ e. (e ≡ WordsError.OutOfMemory) ⊎ (play_of (rows_of (found_of options.now)) ≡ None)) }
     ensures limits { IfOk result IsWithinLimits }
 {
-    let attempts = attempts_given(options).ok_or(WordsError::Usage)?;
-    let options = options_given(alloc, options)?;
-    Ok(Job::Play { options, attempts })
+    let Some(attempts) = attempts_given(options) else {
+        return Err(WordsError::Usage);
+    };
+    let names = link_names_given(alloc, options)?;
+    let options = options_within(alloc, options, &names)?;
+    Ok(Job::Play {
+        names,
+        options,
+        attempts,
+    })
 }

@@ -50,7 +50,9 @@ pub fn repack_job(alloc: Global, options: &ArgMatches<'_>) -> Result<Job, WordsE
     ensures usage { IfErr result (λ e. (e ≡ WordsError.OutOfMemory) ⊎ (repack_of (rows_of (found_of options.now)) ≡ None)) }
     ensures limits { IfOk result IsWithinLimits }
 {
-    let limit = limit_given(options).ok_or(WordsError::Usage)?;
+    let Some(limit) = limit_given(options) else {
+        return Err(WordsError::Usage);
+    };
     Ok(Job::Repack {
         file: file_given(alloc, options)?,
         to: to_given(alloc, options)?,

@@ -2,6 +2,7 @@
 ghost use Rattle.std.specs.Prelude.{◌≡◌, IfSome, option_map};
 ghost use Rattle.h5w_model.specs.Messages.{IsIntType};
 ghost use Rattle.h5w_options.specs.Options.{HasValue};
+ghost use Rattle.h5w_input.specs.Scripts.{is_word};
 ghost use Rattle.h5w_types.specs.Fields.{int_type_of};
 ghost use Rattle.h5w_words.specs.Types.{fill_given, greatest, is_signed, size_and_order, type_named};
 
@@ -19,23 +20,30 @@ fn is_signed(byte: u8) -> Option<bool>
     }
 }
 
+/// Whether a name is this word.
+fn is(name: &[u8], word: &[u8]) -> bool
+    ensures { result ≡ is_word word.now name.now }
+{
+    name == word
+}
+
 /// The bytes of an integer, and whether the most significant comes first, by what stands behind the sign in a type's name.
 fn size_and_order(name: &[u8]) -> Option<(u8, bool)>
     ensures { result ≡ size_and_order name.now }
 {
-    if name == b"8".as_slice() {
+    if is(name, b"8") {
         Some((1, false))
-    } else if name == b"16le".as_slice() {
+    } else if is(name, b"16le") {
         Some((2, false))
-    } else if name == b"16be".as_slice() {
+    } else if is(name, b"16be") {
         Some((2, true))
-    } else if name == b"32le".as_slice() {
+    } else if is(name, b"32le") {
         Some((4, false))
-    } else if name == b"32be".as_slice() {
+    } else if is(name, b"32be") {
         Some((4, true))
-    } else if name == b"64le".as_slice() {
+    } else if is(name, b"64le") {
         Some((8, false))
-    } else if name == b"64be".as_slice() {
+    } else if is(name, b"64be") {
         Some((8, true))
     } else {
         None

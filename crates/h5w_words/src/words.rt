@@ -1,7 +1,7 @@
-ghost use Rattle.std.specs.Prelude.{◌≡◌, ◌≢◌, ◌⊎◌, [], Some, None, map, string_bytes, IfOk, IfErr};
-ghost use Rattle.clap.specs.Words.{App, app_of, fault_of, found_of, rows_of, subcommand_of, subcommand_rows_of, with_subcommand};
-ghost use Rattle.h5w_words.specs.Arguments.{Makes};
-ghost use Rattle.h5w_words.specs.Commands.{asked_of, job_of, named_of, program};
+ghost use Rattle.std.specs.Prelude.{◌≡◌, ◌≢◌, ◌⊎◌, false, [], Some, None, map, string_bytes, IfOk, IfErr};
+ghost use Rattle.clap.specs.Words.{app_of, fault_of, found_of, rows_of, subcommand_of, subcommand_rows_of};
+ghost use Rattle.h5w_words.specs.Arguments.{Makes, has_globals};
+ghost use Rattle.h5w_words.specs.Commands.{app_known, asked_of, job_of, named_of, program, with_known};
 ghost use Rattle.h5w_words.specs.Limits.{IsWithinLimits};
 
 use crate::append::{append, append_job};
@@ -15,32 +15,97 @@ use crate::stop::{stop, stop_job};
 use clap::{ArgMatches, Command};
 use std::alloc::{AllocError, Global};
 
-/// A command with one more, if both were made.
-fn added<'a>(
-    command: Result<Command<'a>, AllocError>,
-    more: Result<Command<'a>, AllocError>,
-) -> Result<Command<'a>, AllocError>
-    ensures { (a b : App) → Makes command.entry a → Makes more.entry b → Makes result (with_subcommand a b.top) }
-{
-    let command = command?;
-    command.subcommand(more?)
+/// A command of the program.
+#[derive(Clone, Copy)]
+pub enum Known {
+    /// `play`.
+    Play,
+    /// `new`.
+    New,
+    /// `check`.
+    Check,
+    /// `poll`.
+    Poll,
+    /// `clear`.
+    Clear,
+    /// `make`.
+    Make,
+    /// `append`.
+    Append,
+    /// `live`.
+    Live,
+    /// `stop`.
+    Stop,
+    /// `repack`.
+    Repack,
 }
 
-/// The program with its commands. Memory may be wanting for each, which the next one passes on.
-fn program<'a>(alloc: Global) -> Result<Command<'a>, AllocError>
-    ensures { IfOk result (λ c. app_of c ≡ program) }
+/// The command, as `clap` has it.
+fn command_of<'a>(alloc: Global, command: Known) -> Result<Command<'a>, AllocError>
+    ensures shape { IfOk result (λ c. app_of c ≡ app_known command) }
+    ensures local { IfOk result (λ c. has_globals c ≡ false) }
 {
-    let command = Ok(Command::new(alloc, "h5swmr"));
-    let command = added(command, play(alloc));
-    let command = added(command, creating(alloc));
-    let command = added(command, check(alloc));
-    let command = added(command, poll(alloc));
-    let command = added(command, clear(alloc));
-    let command = added(command, make(alloc));
-    let command = added(command, append(alloc));
-    let command = added(command, live(alloc));
-    let command = added(command, stop(alloc));
-    added(command, repack(alloc))
+    match command {
+        Known::Play => play(alloc),
+        Known::New => creating(alloc),
+        Known::Check => check(alloc),
+        Known::Poll => poll(alloc),
+        Known::Clear => clear(alloc),
+        Known::Make => make(alloc),
+        Known::Append => append(alloc),
+        Known::Live => live(alloc),
+        Known::Stop => stop(alloc),
+        Known::Repack => repack(alloc),
+    }
+}
+
+/// Lets a command go. It has many parts, and each place that lets it go is dear to prove.
+fn release(_command: Command<'_>) {}
+
+/// Adds the commands of a table, in order.
+fn with_commands<'a>(
+    alloc: Global,
+    command: Command<'a>,
+    table: &[Known],
+) -> Result<Command<'a>, AllocError>
+    requires { has_globals command ≡ false }
+    ensures { Makes result (with_known (app_of command.entry) table.now) }
+{
+    let mut made = command;
+    for each in table {
+        let Ok(more) = command_of(alloc, *each) else {
+            release(made);
+            return Err(AllocError);
+        };
+        let Ok(longer) = made.subcommand(more) else {
+            return Err(AllocError);
+        };
+        made = longer;
+    }
+    Ok(made)
+}
+
+/// The program with its commands.
+fn program<'a>(alloc: Global) -> Result<Command<'a>, AllocError>
+    ensures { Makes result program }
+{
+    let command = Command::new(alloc, "h5swmr");
+    with_commands(
+        alloc,
+        command,
+        &[
+            Known::Play,
+            Known::New,
+            Known::Check,
+            Known::Poll,
+            Known::Clear,
+            Known::Make,
+            Known::Append,
+            Known::Live,
+            Known::Stop,
+            Known::Repack,
+        ],
+    )
 }
 
 /// What the program's commands make of the words.

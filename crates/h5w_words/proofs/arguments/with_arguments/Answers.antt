@@ -1,7 +1,6 @@
-use Rattle.h5w_words.proofs.WordLemmas.{all_added}
+use Rattle.h5w_words.proofs.WordLemmas.{one_more}
 use Rattle.h5w_words.proofs.arguments.with_arguments.Goals as goal
 
-pub returns : goal.returns
-returns c =
-    let added = all_added c.args-2.result c.args.command c.in_ok-args.args.items _ c.in_ok-args.ensures.rules c.in_ok-args.ensures.local c.args-2.ensures in
-    record { shape = added.0; globals = added.1 }
+pub loop-argument-preserved : goal.loop-argument-preserved
+loop-argument-preserved c =
+    one_more c.args.command _ _ c.arg.result c.args.table.now c.loop-argument.argument-index _ c.loop-argument-test.true c.loop-argument.invariant c.in-Ok.ensures c.arg.ensures.rule c.arg.ensures.local
