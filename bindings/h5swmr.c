@@ -396,18 +396,21 @@ h5w_told h5swmr_create(h5swmr_writer **out, const char *path, const char *name, 
     return make(out, writer, path, h5w_writer_create(&writer->core, (const uint8_t *)name, strlen(name), options));
 }
 
-h5w_told h5swmr_create_several(h5swmr_writer **out, const char *path, const char *const *names, size_t count, const h5w_options *options)
+h5w_told h5swmr_create_several(h5swmr_writer **out, const char *path, const char *const *names, size_t count, const h5w_options *options, size_t n)
 {
     struct names all;
     if (!out || !path || !options)
         return misuse();
     *out = NULL;
-    if (!join(&all, names, count))
+    if (!join(&all, names, count) || !n || (n != 1 && n != count))
         return misuse();
+    h5w_options each[NAMES] = { options[0] };
+    for (size_t k = 0; k < count; k++)
+        each[k] = options[n == 1 ? 0 : k];
     h5swmr_writer *writer = new_writer(true);
     if (!writer)
         return tell(H5W_MEMORY, 0, 0);
-    return make(out, writer, path, h5w_several_create(&writer->several, all.bytes, all.size, all.lens, all.count, options));
+    return make(out, writer, path, h5w_several_create(&writer->several, all.bytes, all.size, all.lens, all.count, each, count));
 }
 
 /* How a file is opened: by one name, or else by several, and then perhaps taken over. */

@@ -221,9 +221,10 @@ void h5w_writer_free(h5w_writer *);
  * from 0, in the order of the names; a number with no dataset is MISUSE, and changes nothing. Names are their bytes, one behind another, and the
  * length of each: "framestimes" with 6 and 5. */
 
-/* Begins a new file with a dataset of each of 1 to 8 names of 1 to 64 bytes, all by these options: OK (count: pieces are pending), BUSY, MISUSE (an
- * option or the names are out of bounds, a name stands twice, or the limit is below 1,024 bytes a name) or MEMORY. */
-h5w_told h5w_several_create(h5w_several *, const uint8_t *names, size_t size, const uint64_t *lens, size_t count, const h5w_options *);
+/* Begins a new file with a dataset of each of 1 to 8 names of 1 to 64 bytes, by the options at its place, one for each name; the limit and the budget
+ * are those of the first: OK (count: pieces are pending), BUSY, MISUSE (an option or the names are out of bounds, there are not as many options, a name
+ * stands twice, or the limit is below 1,024 bytes a name) or MEMORY. */
+h5w_told h5w_several_create(h5w_several *, const uint8_t *names, size_t size, const uint64_t *lens, size_t count, const h5w_options *options, size_t n);
 
 /* Opens a file to append to its datasets of 1 to 8 names of up to 512 bytes, as h5w_writer_open. OPENED too if two names lead to one dataset. */
 h5w_told h5w_several_open(h5w_several *, const uint8_t *bytes, size_t n, const uint8_t *names, size_t size, const uint64_t *lens, size_t count, uint64_t limit, uint64_t budget, uint8_t *text, size_t room);
@@ -327,9 +328,10 @@ h5w_told h5swmr_close_writer(h5swmr_writer **);
  * and keep_retired are of all. Rows wait for their flush, and their chunks, whole ones, are within the budget of each dataset: else an append is
  * MEMORY. So give it room for a few chunks. */
 
-/* Makes a file, which must not be there, with an empty dataset of each of 1 to 8 names, all by these options, and goes on as its writer: as
- * h5swmr_create. MISUSE too if a name stands twice, or the limit is below 1,024 bytes a name. */
-h5w_told h5swmr_create_several(h5swmr_writer **, const char *path, const char *const *names, size_t count, const h5w_options *);
+/* Makes a file, which must not be there, with an empty dataset of each of 1 to 8 names, and goes on as its writer: as h5swmr_create. There are `n`
+ * options: one for each name, or one for all. The limit and the budget are those of the first. MISUSE too if a name stands twice, `n` is another
+ * number, or the limit is below 1,024 bytes a name. */
+h5w_told h5swmr_create_several(h5swmr_writer **, const char *path, const char *const *names, size_t count, const h5w_options *options, size_t n);
 
 /* Opens a file to append to its datasets of 1 to 8 names: as h5swmr_append_to, with the rows of the first. OPENED too if two names lead to one
  * dataset. */

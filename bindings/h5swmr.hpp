@@ -108,13 +108,19 @@ public:
         return writer(opened);
     }
 
-    // Writers of several datasets of one file. Their numbers are those of the names, from 0 on.
-    static writer create_several(const std::string &path, const h5w_options &how, const std::vector<std::string> &names)
+    // Writers of several datasets of one file. Their numbers are those of the names, from 0 on. A new file has options for each name, in their order.
+    static writer create_several(const std::string &path, const std::vector<h5w_options> &how, const std::vector<std::string> &names)
     {
         h5swmr_writer *opened;
         auto texts = texts_of(names);
-        done("create", h5swmr_create_several(&opened, path.c_str(), texts.data(), texts.size(), &how));
+        done("create", h5swmr_create_several(&opened, path.c_str(), texts.data(), texts.size(), how.data(), how.size()));
         return writer(opened);
+    }
+
+    // All by the same options.
+    static writer create_several(const std::string &path, const h5w_options &how, const std::vector<std::string> &names)
+    {
+        return create_several(path, std::vector<h5w_options>(1, how), names);
     }
 
     static writer append_to_several(const std::string &path, const std::vector<std::string> &names, std::uint64_t limit = std::uint64_t(1) << 40, std::uint64_t budget = 65536)
@@ -135,6 +141,7 @@ public:
     }
 
     std::uint64_t append_in(std::size_t dataset, const std::vector<std::int64_t> &values) { return done("append", h5swmr_append_in(handle.get(), dataset, values.data(), values.size())); }
+    std::uint64_t columns(std::size_t dataset = 0) const { return h5swmr_columns_in(handle.get(), dataset); }
     std::uint64_t rows(std::size_t dataset = 0) const { return h5swmr_appended_in(handle.get(), dataset); }
     std::uint64_t count() const { return h5swmr_count(handle.get()); }
 

@@ -8,7 +8,7 @@ libh5swmr.so.
     with h5swmr.Reader("f.h5") as reader:
         print(reader.read(0, reader.refresh()))
 
-    with h5swmr.create("g.h5", names=["frames", "times"]) as writer:
+    with h5swmr.create("g.h5", names={"frames": {"kind": "u16le"}, "times": {}}) as writer:
         writer.append([1, 2, 3], name="frames")
         writer.append([4], name="times")
         writer.flush()
@@ -21,6 +21,7 @@ the process: the child of a fork opens its own.
 """
 import array
 import collections
+import collections.abc
 import ctypes
 import os
 import re
@@ -78,7 +79,7 @@ CALLS = {
     "close_reader": (Told, ctypes.POINTER(HANDLE)),
     "create": (Told, ctypes.POINTER(HANDLE), TEXT, TEXT, ctypes.POINTER(Options)),
     "append_to": (Told, ctypes.POINTER(HANDLE), TEXT, TEXT, NUMBER, NUMBER),
-    "create_several": (Told, ctypes.POINTER(HANDLE), TEXT, TEXTS, SIZE, ctypes.POINTER(Options)),
+    "create_several": (Told, ctypes.POINTER(HANDLE), TEXT, TEXTS, SIZE, ctypes.POINTER(Options), SIZE),
     "append_to_several": (Told, ctypes.POINTER(HANDLE), TEXT, TEXTS, SIZE, NUMBER, NUMBER),
     "take_over": (Told, ctypes.POINTER(HANDLE), TEXT, TEXTS, SIZE, NUMBER, NUMBER),
     "keep_retired": (Told, HANDLE),
@@ -369,20 +370,29 @@ def writer_of(call, path, name, names, words, keep_retired):
     return SeveralWriter(f"{call}_several", path, names, words, keep_retired)
 
 
-def create(path, name="data", kind="i64le", chunk=1024, columns=0, width=0, fixed=False, fill=None, limit=LIMIT, budget=None, keep_retired=False, names=None):
-    """Makes a file, which must not be there, with an empty dataset, and gives its writer. The words are those of `h5swmr new`: kind is one of i8, u8,
-    i16le and so on, chunk the rows of a chunk; with columns there are two dimensions, and width columns in a chunk. keep_retired is as
-    `--no-reuse`, for HDF5's own library as a reader. With names there is a dataset of each, 1 to 8 of them, all by these words, and the writer is a
-    SeveralWriter. The budget is 65,536 bytes if it is not said, and with names 64 MiB of each."""
+def options_of(limit, budget, kind="i64le", chunk=1024, columns=0, width=0, fixed=False, fill=None):
+    """How a dataset is made, by the words of `create`."""
     parts = re.fullmatch("([iu])(?:(8)|(16|32|64)(le|be))", kind)
     if not parts:
         raise ValueError(f"no such type: {kind!r}")
     sign, short, long, order = parts.groups()
     if fill is not None and not -1 << 63 <= fill < 1 << 63:
         raise OverflowError(f"a fill of {fill} is no signed number of 64 bits")
-    numbers = [number(it) for it in (chunk, columns, width, limit, budget_of(budget, names))]
-    how = Options(*numbers, fill or 0, int(short or long) // 8, order == "be", sign == "i", fill is not None, fixed)
-    return writer_of("create", path, name, names, (ctypes.byref(how),), keep_retired)
+    numbers = [number(it) for it in (chunk, columns, width, limit, budget)]
+    return Options(*numbers, fill or 0, int(short or long) // 8, order == "be", sign == "i", fill is not None, fixed)
+
+
+def create(path, name="data", kind="i64le", chunk=1024, columns=0, width=0, fixed=False, fill=None, limit=LIMIT, budget=None, keep_retired=False, names=None):
+    """Makes a file, which must not be there, with an empty dataset, and gives its writer. The words are those of `h5swmr new`: kind is one of i8, u8,
+    i16le and so on, chunk the rows of a chunk; with columns there are two dimensions, and width columns in a chunk. keep_retired is as
+    `--no-reuse`, for HDF5's own library as a reader. With names there is a dataset of each, 1 to 8 of them, and the writer is a SeveralWriter: all by
+    these words, or each by its own, as in names={"line": {"kind": "i64le"}, "frames": {"kind": "u16le", "columns": 640, "width": 640}}; the other
+    words are those of the call. The budget is 65,536 bytes if it is not said, and with names 64 MiB of each."""
+    words = {"kind": kind, "chunk": chunk, "columns": columns, "width": width, "fixed": fixed, "fill": fill}
+    own = names.values() if isinstance(names, collections.abc.Mapping) else [{}]
+    each = [options_of(limit, budget_of(budget, names), **{**words, **it}) for it in own]
+    how = (Options * len(each))(*each)
+    return writer_of("create", path, name, names, (how,) if names is None else (how, len(each)), keep_retired)
 
 
 def append_to(path, name="data", limit=LIMIT, budget=None, keep_retired=False, names=None):

@@ -97,7 +97,7 @@ void *__wrap_realloc(void *old, size_t n)
 /* Begins a file of one dataset or of several. */
 static h5w_told begin(h5swmr_writer **writer, const char *file, const h5w_options *how)
 {
-    return sets == 1 ? h5swmr_create(writer, file, NAMES[0], how) : h5swmr_create_several(writer, file, NAMES, sets, how);
+    return sets == 1 ? h5swmr_create(writer, file, NAMES[0], how) : h5swmr_create_several(writer, file, NAMES, sets, how, 1);
 }
 
 /* Appends a batch to each dataset. */

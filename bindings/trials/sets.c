@@ -53,18 +53,21 @@ static void wrong_names(h5w_several *several)
     static const uint64_t nine[9] = { 1, 1, 1, 1, 1, 1, 1, 1, 1 }, same[2] = { 4, 4 };
     static const uint8_t letters[65] = "abcdefghi";
     static const uint64_t one[1] = { 65 };
-    h5w_options how = H5W_OPTIONS;
+    h5w_options how[9] = { H5W_OPTIONS, H5W_OPTIONS, H5W_OPTIONS, H5W_OPTIONS, H5W_OPTIONS, H5W_OPTIONS, H5W_OPTIONS, H5W_OPTIONS, H5W_OPTIONS };
     for (size_t k = 0; k < sizeof wrong / sizeof *wrong; k++)
-        want_code("create with lengths that do not fit", h5w_several_create(several, NAMES, 11, wrong[k], 2, &how), H5W_MISUSE);
-    want_code("create without names", h5w_several_create(several, NAMES, 0, LENS, 0, &how), H5W_MISUSE);
-    want_code("create with bytes and no names", h5w_several_create(several, NAMES, 11, LENS, 0, &how), H5W_MISUSE);
-    want_code("create with nine names", h5w_several_create(several, letters, 9, nine, 9, &how), H5W_MISUSE);
-    want_code("create with a name twice", h5w_several_create(several, (const uint8_t *)"samesame", 8, same, 2, &how), H5W_MISUSE);
-    want_code("create with a long name", h5w_several_create(several, letters, 65, one, 1, &how), H5W_MISUSE);
-    how.limit = 2047;
-    want_code("create with a limit below 1,024 bytes a name", h5w_several_create(several, NAMES, 11, LENS, 2, &how), H5W_MISUSE);
-    how.limit = LIMIT, how.chunk_rows = 0;
-    want_code("create with an option out of bounds", h5w_several_create(several, NAMES, 11, LENS, 2, &how), H5W_MISUSE);
+        want_code("create with lengths that do not fit", h5w_several_create(several, NAMES, 11, wrong[k], 2, how, 2), H5W_MISUSE);
+    want_code("create without names", h5w_several_create(several, NAMES, 0, LENS, 0, how, 0), H5W_MISUSE);
+    want_code("create with bytes and no names", h5w_several_create(several, NAMES, 11, LENS, 0, how, 0), H5W_MISUSE);
+    want_code("create with nine names", h5w_several_create(several, letters, 9, nine, 9, how, 9), H5W_MISUSE);
+    want_code("create with a name twice", h5w_several_create(several, (const uint8_t *)"samesame", 8, same, 2, how, 2), H5W_MISUSE);
+    want_code("create with a long name", h5w_several_create(several, letters, 65, one, 1, how, 1), H5W_MISUSE);
+    want_code("create with fewer options than names", h5w_several_create(several, NAMES, 11, LENS, 2, how, 1), H5W_MISUSE);
+    want_code("create with more options than names", h5w_several_create(several, NAMES, 11, LENS, 2, how, 3), H5W_MISUSE);
+    want_code("create without options", h5w_several_create(several, NAMES, 11, LENS, 2, how, 0), H5W_MISUSE);
+    how[0].limit = 2047;
+    want_code("create with a limit below 1,024 bytes a name", h5w_several_create(several, NAMES, 11, LENS, 2, how, 2), H5W_MISUSE);
+    how[0].limit = LIMIT, how[1].chunk_rows = 0;
+    want_code("create with an option out of bounds", h5w_several_create(several, NAMES, 11, LENS, 2, how, 2), H5W_MISUSE);
     want_code("open with a low limit", h5w_several_open(several, NAMES, 4, NAMES, 11, LENS, 2, 1023, 1024, TEXT), H5W_MISUSE);
     want_code("open with a low budget", h5w_several_open(several, NAMES, 4, NAMES, 11, LENS, 2, 1024, 1023, TEXT), H5W_MISUSE);
     want_code("open without names", h5w_several_open(several, NAMES, 4, NAMES, 0, LENS, 0, 1024, 1024, TEXT), H5W_MISUSE);
@@ -125,13 +128,14 @@ static void appends(h5w_several *several)
 static void core(void)
 {
     h5w_several several = { 0 };
-    h5w_options how = H5W_OPTIONS;
+    h5w_options how[2] = { H5W_OPTIONS, H5W_OPTIONS };
     uint64_t little[1] = { 7 };
     empty(&several);
     wrong_names(&several);
-    how.size = 1;
-    h5w_told told = want_code("create", h5w_several_create(&several, NAMES, 11, LENS, 2, &how), H5W_OK);
-    want_code("create again", h5w_several_create(&several, NAMES, 11, LENS, 2, &how), H5W_BUSY);
+    how[0].size = how[1].size = 1;
+    how[1].limit = 1024; /* (the limit is that of the first) */
+    h5w_told told = want_code("create", h5w_several_create(&several, NAMES, 11, LENS, 2, how, 2), H5W_OK);
+    want_code("create again", h5w_several_create(&several, NAMES, 11, LENS, 2, how, 2), H5W_BUSY);
     want_code("open again", h5w_several_open(&several, NAMES, 4, NAMES, 11, LENS, 2, 1024, 1024, TEXT), H5W_BUSY);
     want("datasets", h5w_several_count(&several), 2);
     busy(&several, told.count);
@@ -158,7 +162,7 @@ static void core(void)
     memset(counts, 0, sizeof counts);
     empty(&several);
     /* (a failure drops the pieces of a creation too) */
-    want_code("create", h5w_several_create(&several, NAMES, 11, LENS, 2, &how), H5W_OK);
+    want_code("create", h5w_several_create(&several, NAMES, 11, LENS, 2, how, 2), H5W_OK);
     want_code("failed", h5w_several_failed(&several), H5W_OK);
     want("nothing to write", show(&several, 0), 0);
     want_code("close after it", h5w_several_close(&several, TEXT), H5W_STOPPED);
@@ -189,11 +193,13 @@ static void wrong_words(const char *file)
     h5w_options how = H5W_OPTIONS;
     memset(name, 'n', 513);
     name[513] = 0;
-    want_code("nine names", h5swmr_create_several(&writer, file, names, 9, &how), H5W_MISUSE);
-    want_code("a name that is NULL", h5swmr_create_several(&writer, file, broken, 2, &how), H5W_MISUSE);
-    want_code("names that are NULL", h5swmr_create_several(&writer, file, NULL, 1, &how), H5W_MISUSE);
-    want_code("no names", h5swmr_create_several(&writer, file, names, 0, &how), H5W_MISUSE);
-    want_code("no options", h5swmr_create_several(&writer, file, names, 2, NULL), H5W_MISUSE);
+    want_code("nine names", h5swmr_create_several(&writer, file, names, 9, &how, 1), H5W_MISUSE);
+    want_code("a name that is NULL", h5swmr_create_several(&writer, file, broken, 2, &how, 1), H5W_MISUSE);
+    want_code("names that are NULL", h5swmr_create_several(&writer, file, NULL, 1, &how, 1), H5W_MISUSE);
+    want_code("no names", h5swmr_create_several(&writer, file, names, 0, &how, 1), H5W_MISUSE);
+    want_code("no options", h5swmr_create_several(&writer, file, names, 2, NULL, 1), H5W_MISUSE);
+    want_code("options for none", h5swmr_create_several(&writer, file, names, 2, &how, 0), H5W_MISUSE);
+    want_code("two options for three", h5swmr_create_several(&writer, file, names, 3, (const h5w_options[]){ how, how }, 2), H5W_MISUSE);
     want_code("a long name", h5swmr_append_to_several(&writer, file, large, 1, LIMIT, BUDGET), H5W_MISUSE);
     want_code("no path", h5swmr_append_to_several(&writer, NULL, names, 2, LIMIT, BUDGET), H5W_MISUSE);
     want_code("no handle", h5swmr_take_over(NULL, file, names, 2, LIMIT, BUDGET), H5W_MISUSE);
@@ -212,10 +218,10 @@ static void files(const char *file)
     int64_t seen[4];
     wrong_words(file);
     how.columns = how.width = 2, how.chunk_rows = 16, how.budget = 1024;
-    want_code("create", h5swmr_create_several(&writer, file, names, 2, &how), H5W_OK);
+    want_code("create", h5swmr_create_several(&writer, file, names, 2, &how, 1), H5W_OK);
     want("flags of a writer", want_code("append_to beside a writer", h5swmr_append_to_several(&second, file, names, 2, LIMIT, BUDGET), H5W_OPENED).detail, H5W_WRITER);
     want("its line", (uint64_t)strcmp(h5swmr_line(), "error flags 5"), 0);
-    want_code("create of a file that is there", h5swmr_create_several(&second, file, names, 2, &how), H5W_IO);
+    want_code("create of a file that is there", h5swmr_create_several(&second, file, names, 2, &how, 1), H5W_IO);
     want("columns", want_code("append of half a row", h5swmr_append_in(writer, 1, (const int64_t[]){ 1, 2, 3 }, 3), H5W_ROWS).count, 2);
     want("its line", (uint64_t)strcmp(h5swmr_line(), "error line 1"), 0);
     want_code("append to a dataset that is not there", h5swmr_append_in(writer, 2, (const int64_t[]){ 1, 2 }, 2), H5W_MISUSE);

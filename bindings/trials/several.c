@@ -27,7 +27,7 @@ static h5swmr_writer *opened(const char *file, size_t count, uint64_t from, uint
     else if (from)
         want("rows that are there", want_code("append_to", h5swmr_append_to_several(&writer, file, NAMES, count, options.limit, options.budget), H5W_OK).count, from);
     else
-        want_code("create", h5swmr_create_several(&writer, file, NAMES, count, &options), H5W_OK);
+        want_code("create", h5swmr_create_several(&writer, file, NAMES, count, &options, 1), H5W_OK);
     if (!strcmp(how, "keep"))
         want_code("keep_retired", h5swmr_keep_retired(writer), H5W_OK);
     return writer;

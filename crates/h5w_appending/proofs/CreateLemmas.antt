@@ -1,5 +1,5 @@
 -- The making of a file.
-use Rattle.std.proofs.Common.{◌≡◌, ℕ, zero, suc, ◌+◌, ◌<◌, ◌≤◌, true, false, List, [], ◌∷◌, ◌++◌, length, length-append, append_assoc, append-nil, get_or, take, drop, Option, Some, None, Result, Ok, Err, refl, sym, ap, ap₂, ◌∙◌, subst, inl, inr, arith}
+use Rattle.std.proofs.Common.{◌≡◌, ℕ, zero, suc, ◌+◌, ◌<◌, ◌≤◌, true, false, List, [], ◌∷◌, ◌++◌, length, length-append, append_assoc, append-nil, get_or, take, drop, replicate, Option, Some, None, Result, Ok, Err, refl, sym, ap, ap₂, ◌∙◌, subst, inl, inr, arith}
 use Rattle.std.specs.Prelude.{IfErr, IfSome, OnOk, is_none, option_map}
 use Rattle.std.specs.FinMap as finite
 use Rattle.std.specs.List.{AllByRecursion}
@@ -24,8 +24,8 @@ use Rattle.h5w_creation_laws.specs.CreationLaws.{WritesEndBy}
 use Rattle.h5w_creation.specs.Forms.{IsForm}
 use Rattle.h5w_creation.specs.declared.form.Form.{Form}
 use Rattle.h5w_several_creation.specs.Forms.{AreNames, all_by}
-use Rattle.h5w_several_creation.proofs.SetLemmas.{all_creatable, as_many}
-use Rattle.h5w_several_creation_laws.specs.SeveralFiles.{AllNamed, AreCreatable, closed_writes, created_writes, end_behind, end_of, first_place, moment_at, names_of, root_ranges, super_block, super_of}
+use Rattle.h5w_several_creation.proofs.SetLemmas.{are_creatable, same_forms}
+use Rattle.h5w_several_creation_laws.specs.SeveralFiles.{AllNamed, AreCreatable, closed_writes, created_writes, end_behind, end_of, first_place, moment_at, root_ranges, super_block, super_of}
 use Rattle.h5w_several_creation_laws.specs.SeveralLaws.{EachStands}
 use Rattle.h5w_several_creation_laws.proofs.PlaceLemmas.{end_above}
 use Rattle.h5w_several_creation_laws.proofs.SetLemmas.{ends_joined}
@@ -208,21 +208,8 @@ made_by u v w name ws (Err e) missing m calm p calmer few = made_few u v w name 
 
 -- ---- What the pieces are
 
-names_same : (names : List (List ℕ)) (form : Form) → names_of (all_by names form) ≡ names
-names_same [] form = refl
-names_same (name ∷ names) form = ap (λ (ns : List (List ℕ)). name ∷ ns) (names_same names form)
-
 pub all_may : (names : List (List ℕ)) (form : Form) → IsForm form → AreNames names → AllNamed names → AreCreatable (all_by names form)
-all_may names form h are named =
-    let some = are.some in
-    let few = are.few in
-    let many = as_many names form in
-    record {
-      some = omega arith;
-      few = omega arith;
-      each = all_creatable names form h are.each;
-      named = subst AllNamed (sym (names_same names form)) named;
-    }
+all_may names form h are named = are_creatable names (replicate (length names) form) (same_forms names form h) are named
 
 pub closed_sized : (fs : List CreatedFile) → AreCreatable fs → AllSized (closed_writes fs)
 closed_sized fs h =

@@ -5,15 +5,15 @@ ghost use Rattle.h5w_model.specs.Images.{AllSized};
 ghost use Rattle.h5w_creation.specs.Forms.{IsForm};
 ghost use Rattle.h5w_creation_laws.specs.CreationLaws.{WritesEndBy};
 ghost use Rattle.h5w_several_creation.specs.Forms.{AreNames, all_by};
-ghost use Rattle.h5w_several_creation_laws.specs.SeveralFiles.{AllNamed, closed_writes, end_of};
+ghost use Rattle.h5w_several_creation_laws.specs.SeveralFiles.{AllNamed, closed_writes, created_writes, end_of, super_of};
 ghost use Rattle.h5w_text.specs.Table.{numbers_text};
 ghost use Rattle.h5w_files.specs.Ends.{EndsWell};
 ghost use Rattle.h5w_appending.specs.Creates.{CreateEnds, CreatesTo, FillsFew, Makes, PutsFew, PutsUpTo, answer_of, end_given};
 
 use h5w_image::{Disk, Failed, MakeError};
-use h5w_model::Write;
+use h5w_model::{OutOfMemory, Write};
 use h5w_names::Names;
-use h5w_several_creation::{Form, closing, create_files};
+use h5w_several_creation::{Creations, Form, closing, create_files};
 use h5w_text::{Sink, Status, say, write_numbers};
 use std::alloc::Global;
 
@@ -88,6 +88,17 @@ fn make_new<D: Disk>(new: &NewPieces, file: &str, disk: &mut D) -> Result<(), Cr
     }
 }
 
+/// A new file with a dataset of this form under each of these names.
+fn create_alike(alloc: Global, names: &Names, form: &Form) -> Result<Creations, OutOfMemory>
+    requires form { IsForm form.now }
+    requires names { AreNames names.now }
+    ensures root { IfOk result (λ made. made.root ≡ super_of 5 (all_by names.now form.now)) }
+    ensures writes { IfOk result (λ made. made.writes.items ≡ created_writes (all_by names.now form.now)) }
+{
+    let forms = vec![in alloc; *form; names.len()]?;
+    create_files(alloc, names, &forms)
+}
+
 /// The pieces of a new file with a dataset of this form under each of these names. `text` gets the line of its end.
 fn begin(
     alloc: Global,
@@ -103,7 +114,7 @@ fn begin(
     ensures refused { IfErr result (λ e. e ≡ CreateError.OutOfMemory) }
     ensures text { OnOk result (text.new.items ≡ numbers_text (codes "new end") (end_of (all_by names.now form.now) ∷ [])) }
 {
-    let Ok(made) = create_files(alloc, names, form) else {
+    let Ok(made) = create_alike(alloc, names, form) else {
         return Err(CreateError::OutOfMemory);
     };
     let end = made.root.end;

@@ -12,16 +12,16 @@ use h5w_several_handles as calls;
 use h5w_writer_handles::H5wOptions;
 use std::alloc::Global;
 
-/// Opens a writer in the handle, which holds nothing: it creates a file with a dataset of each of these names, all by the same options. Answers Done
-/// with the pieces that are pending, Busy, Misuse or Memory. Misuse: an option is out of its bounds, the names are not 1 to 8 of 1 to 64 bytes, one
-/// stands twice, or the limit is below 1,024 bytes a name.
+/// Opens a writer in the handle, which holds nothing: it creates a file with a dataset of each of these names, by the options at its place. The limit
+/// and the budget of the first are those of the file. Answers Done with the pieces that are pending, Busy, Misuse or Memory. Misuse: an option is out of
+/// its bounds, the names are not 1 to 8 of 1 to 64 bytes, one stands twice, there are not as many options, or the limit is below 1,024 bytes a name.
 #[unsafe(no_mangle)]
 pub extern "C" fn h5w_several_create(
     alloc: Global,
     several: &mut Handle,
     names: &[u8],
     lens: &[u64],
-    options: &H5wOptions,
+    options: &[H5wOptions],
 ) -> H5wTold
     ensures { CreatesSet lens.now names.now options.now several.old.at.held result several.new.at.held }
 {

@@ -1,5 +1,5 @@
 -- The sessions that begin over the datasets of a new file.
-use Rattle.std.proofs.Common.{◌≡◌, ℕ, suc, ◌+◌, ◌^◌, ◌<◌, ◌≤◌, false, List, [], ◌∷◌, ◌++◌, length, refl, sym, ◌∙◌, ap, subst, inl, inr, arith, append_assoc}
+use Rattle.std.proofs.Common.{◌≡◌, ℕ, suc, ◌+◌, ◌^◌, ◌<◌, ◌≤◌, false, List, [], ◌∷◌, ◌++◌, length, refl, sym, ◌∙◌, ap, subst, inl, inr, arith, append_assoc, append-nil}
 use Rattle.std.specs.Prelude.{OnOk, Result, Ok, Err}
 use Rattle.std.proofs.lemmas.List.Elements.{All-nil}
 use Rattle.h5w_model.specs.Arrays.{eahd_len}
@@ -13,11 +13,11 @@ use Rattle.h5w_chunks.specs.Grids.{dataset_of}
 use Rattle.h5w_creation_laws.specs.CreatedFiles.{CreatedFile, IsCreatable, described_of}
 use Rattle.h5w_creation.specs.Forms.{created_by}
 use Rattle.h5w_creation.specs.Made.{IsNewIndex}
-use Rattle.h5w_creation.proofs.FormLemmas.{creatable}
+use Rattle.h5w_creation.specs.declared.form.Form.{Form}
 use Rattle.h5w_several_creation_laws.specs.SeveralFiles.{block_behind, described_at, end_behind, end_from, index_behind}
 use Rattle.h5w_several_creation_laws.proofs.PlaceLemmas.{end_above}
 use Rattle.h5w_several_creation_laws.proofs.SetLemmas.{long_at, spellable_at}
-use Rattle.h5w_several_creation.specs.Forms.{HasRoom, all_by, any_by}
+use Rattle.h5w_several_creation.specs.Forms.{any_by, each_by}
 use Rattle.h5w_session.specs.Creations.{places_to}
 use Rattle.h5w_session.specs.PartLaws.{super_piece}
 use Rattle.h5w_session.specs.Sessions.{IsSession, IsWritable, Session}
@@ -28,8 +28,9 @@ use Rattle.h5w_session.proofs.StateLemmas.{up_some}
 use Rattle.h5w_several_session.specs.Opened.{AreOpened, rested, sessions_at_rest}
 use Rattle.h5w_several_session_laws.specs.Sessions.{Sessions}
 use Rattle.h5w_several_creating.specs.Created.{AreIndexes, created_part, created_parts}
-use Rattle.h5w_several_creating.specs.Parts.{AddsParts, IsMold, IsPartOver, over_part, over_parts}
+use Rattle.h5w_several_creating.specs.Parts.{AddsParts, IsMold, IsPartOver, IsShared, over_part, over_parts}
 use Rattle.h5w_several_creating.specs.declared.parts.Mold.{Mold}
+use Rattle.h5w_several_creating.specs.declared.parts.Shared.{Shared}
 use Rattle.h5w_several_creating.proofs.PartLemmas.{no_chunk}
 
 -- ---- One part
@@ -47,21 +48,19 @@ writable place f is small =
 pub short_header : (place : ℕ) (f : CreatedFile) → IsCreatable f → end_behind place f < 2 ^ 62 → length (spelled_header (described_at place f)) ≤ 512
 short_header place f is small = (spelled_read (described_at place f) (spellable_at place f is small)).short
 
-pub made_is : (m : Mold) (place : ℕ) (name : List ℕ) (v : IndexView) → IsMold m → HasRoom name → 48 ≤ place → end_behind place (created_by name m.form) ≤ m.root.end → IsSound v
-    → IsNewIndex m.form.index (index_behind place (created_by name m.form)) (block_behind place (created_by name m.form)) v → IsSession (over_part m place name v)
-made_is m place name v mold room begun ends sound new =
-    let f = created_by name m.form in
-    let is = creatable name m.form mold.form room.0 room.1 in
-    let end = mold.small in
+pub made_is : (t : Shared) (place : ℕ) (f : CreatedFile) (v : IndexView) → IsShared t → IsCreatable f → 48 ≤ place → end_behind place f ≤ t.root.end → IsSound v → IsNewIndex f.index (index_behind place f) (block_behind place f) v
+    → IsSession (over_part t place f v)
+made_is t place f v shared is begun ends sound new =
+    let end = shared.small in
     let small : end_behind place f < 2 ^ 62 = omega (arith, ends, end) in
     let none = no_chunk place f is in
     let long = long_at place f is small in
-    let empty = empty_index f.index (index_behind place f) (block_behind place f) v m.root.end (λ e. refl) (omega (arith, ends)) (omega (arith, ends, end)) (omega (arith, ends, end)) new in
+    let empty = empty_index f.index (index_behind place f) (block_behind place f) v t.root.end (λ e. refl) (omega (arith, ends)) (omega (arith, ends, end)) (omega (arith, ends, end)) new in
     record {
       some_columns = is.some_columns;
       cells = omega arith;
       few = omega (arith, none);
-      version = mold.version;
+      version = shared.version;
       begun = omega (arith, begun, ends);
       kind = empty.is_kind;
       sound = sound;
@@ -70,7 +69,7 @@ made_is m place name v mold room begun ends sound new =
       addressed = λ undefined. absurd (omega (arith, undefined, ends, end));
       header_ends = omega (arith, long, ends);
       small = omega (arith, end);
-      limit = mold.limit;
+      limit = shared.limit;
       inside = λ key from named. absurd (named (empty.map key));
       tops = λ whole. empty.tops;
       blank = λ unmade key. empty.map key;
@@ -81,9 +80,9 @@ made_is m place name v mold room begun ends sound new =
       ends = λ k p here. absurd cc;
       flushing = λ e. refl;
       busy = λ e. absurd cc;
-      budget_low = mold.budget_low;
-      budget_high = mold.budget_high;
-      head = λ named lacking. subst (λ (n : ℕ). n + eahd_len ≤ m.root.end) (sym empty.place) (head_ends v m.root.end lacking empty.tops);
+      budget_low = shared.budget_low;
+      budget_high = shared.budget_high;
+      head = λ named lacking. subst (λ (n : ℕ). n + eahd_len ≤ t.root.end) (sym empty.place) (head_ends v t.root.end lacking empty.tops);
     }
 
 -- a dataset of the form, with its index behind the header
@@ -98,27 +97,28 @@ pub moved_index : (m : Mold) (place : ℕ) (name : List ℕ) (v : IndexView) →
 moved_index m place name v mold new = subst (λ (n : ℕ). IsNewIndex m.form.index (place + n) (place + n + 72) v) mold.long new
 
 -- the session over a dataset with this header
-abbrev pub over_with : Mold → ℕ → List ℕ → Described → List ℕ → IndexView → Session
-over_with m place name d header v = record (over_part m place name v) { header = header; dataset = d; committed = d.shape.rows }
+abbrev pub over_with : Shared → ℕ → CreatedFile → Described → List ℕ → IndexView → Session
+over_with t place f d header v = record (over_part t place f v) { header = header; dataset = d; committed = d.shape.rows }
 
-pub over_is : (m : Mold) (place : ℕ) (name : List ℕ) (d : Described) (header : List ℕ) (v : IndexView) → d ≡ described_at place (created_by name m.form) → header ≡ spelled_header d → over_with m place name d header v ≡ over_part m place name v
-over_is m place name d header v is spelled = λ k. record (over_part m place name v) { header = (spelled ∙ ap spelled_header is) k; dataset = is k; committed = (is k).shape.rows }
+pub over_is : (t : Shared) (place : ℕ) (f : CreatedFile) (d : Described) (header : List ℕ) (v : IndexView) → d ≡ described_at place f → header ≡ spelled_header d → over_with t place f d header v ≡ over_part t place f v
+over_is t place f d header v is spelled = λ k. record (over_part t place f v) { header = (spelled ∙ ap spelled_header is) k; dataset = is k; committed = (is k).shape.rows }
 
 -- ---- All of them
 
--- the first of them ends within the file
-pub within_first : (m : Mold) (place : ℕ) (name : List ℕ) (names all : List (List ℕ)) → all ≡ name ∷ names → end_from place (all_by all m.form) ≤ m.root.end → end_behind place (created_by name m.form) ≤ m.root.end
-within_first m place name names all is ends =
-    let e = ap (λ (ns : List (List ℕ)). end_from place (all_by ns m.form)) is in
-    let more = end_above (end_behind place (created_by name m.form)) (all_by names m.form) in
+-- the first of them, which ends within the file
+pub within_first : (end place : ℕ) (name : List ℕ) (names all : List (List ℕ)) (form : Form) (forms every : List Form) → all ≡ name ∷ names → every ≡ form ∷ forms → end_from place (each_by all every) ≤ end → end_behind place (created_by name form) ≤ end
+within_first end place name names all form forms every is by ends =
+    let e : end_from place (each_by all every) ≡ end_from (end_behind place (created_by name form)) (each_by names forms) =
+    ap (λ (ns : List (List ℕ)). end_from place (each_by ns every)) is ∙ ap (λ (fs : List Form). end_from place (each_by (name ∷ names) fs)) by in
+    let more = end_above (end_behind place (created_by name form)) (each_by names forms) in
     omega (arith, ends, e, more)
 
 -- one more, and those behind it
-pub adds_one : (m : Mold) (place next : ℕ) (name : List ℕ) (names : List (List ℕ)) (s : Session) (old mid new : List Session) → IsPartOver m place name s → mid ≡ old ++ s ∷ [] → next ≡ end_behind place (created_by name m.form)
-    → AddsParts m next names mid new → AddsParts m place (name ∷ names) old new
-adds_one m place next name names s old mid new p push at x =
-    let y = subst (λ (n : ℕ). AddsParts m n names mid new) at x in
-    let behind = over_parts m (end_behind place (created_by name m.form)) names y.indexes in
+pub adds_one : (t : Shared) (place next : ℕ) (f : CreatedFile) (fs : List CreatedFile) (s : Session) (old mid new : List Session) → IsPartOver t place f s → mid ≡ old ++ s ∷ [] → next ≡ end_behind place f → AddsParts t next fs mid new
+    → AddsParts t place (f ∷ fs) old new
+adds_one t place next f fs s old mid new p push at x =
+    let y = subst (λ (n : ℕ). AddsParts t n fs mid new) at x in
+    let behind = over_parts t (end_behind place f) fs y.indexes in
     record {
       indexes = p.index ∷ y.indexes;
       are = ((p.sound, p.new), y.are);
@@ -127,38 +127,37 @@ adds_one m place next name names s old mid new p push at x =
           ∙ ap (λ (z : Session). old ++ z ∷ behind) p.is;
     }
 
-pub added : {A E : Type 0} (m : Mold) (place next : ℕ) (name : List ℕ) (names : List (List ℕ)) (s : Session) (old mid new : List Session) (r : Result A E) → IsPartOver m place name s → mid ≡ old ++ s ∷ []
-    → next ≡ end_behind place (created_by name m.form) → OnOk r (AddsParts m next names mid new) → OnOk r (AddsParts m place (name ∷ names) old new)
-added m place next name names s old mid new (Ok a) p push at x = adds_one m place next name names s old mid new p push at x
-added m place next name names s old mid new (Err e) p push at x = tt
+pub added : {A E : Type 0} (t : Shared) (place next : ℕ) (f : CreatedFile) (fs : List CreatedFile) (s : Session) (old mid new : List Session) (r : Result A E) → IsPartOver t place f s → mid ≡ old ++ s ∷ [] → next ≡ end_behind place f
+    → OnOk r (AddsParts t next fs mid new) → OnOk r (AddsParts t place (f ∷ fs) old new)
+added t place next f fs s old mid new (Ok a) p push at x = adds_one t place next f fs s old mid new p push at x
+added t place next f fs s old mid new (Err e) p push at x = tt
 
-pub all_opened : (m : Mold) (place : ℕ) (names : List (List ℕ)) (vs : List IndexView) → AreOpened m.root.end (over_parts m place names vs)
-all_opened m place [] vs = tt
-all_opened m place (name ∷ names) [] = tt
-all_opened m place (name ∷ names) (v ∷ vs) =
-    (record { ends = omega arith; going = refl; first = super_piece m.root; pending = refl; calm = refl; early = refl }, all_opened m (end_behind place (created_by name m.form)) names vs)
+pub all_opened : (t : Shared) (place : ℕ) (fs : List CreatedFile) (vs : List IndexView) → AreOpened t.root.end (over_parts t place fs vs)
+all_opened t place [] vs = tt
+all_opened t place (f ∷ fs) [] = tt
+all_opened t place (f ∷ fs) (v ∷ vs) =
+    (record { ends = omega arith; going = refl; first = super_piece t.root; pending = refl; calm = refl; early = refl }, all_opened t (end_behind place f) fs vs)
 
-pub many_over : (m : Mold) (place : ℕ) (names : List (List ℕ)) (vs : List IndexView) → AreIndexes place (all_by names m.form) vs → length (over_parts m place names vs) ≡ length names
-many_over m place [] vs x = refl
-many_over m place (name ∷ names) [] x = absurd x
-many_over m place (name ∷ names) (v ∷ vs) x = ap suc (many_over m (end_behind place (created_by name m.form)) names vs x.1)
+pub many_over : (t : Shared) (place : ℕ) (fs : List CreatedFile) (vs : List IndexView) → AreIndexes place fs vs → length (over_parts t place fs vs) ≡ length fs
+many_over t place [] vs x = refl
+many_over t place (f ∷ fs) [] x = absurd x
+many_over t place (f ∷ fs) (v ∷ vs) x = ap suc (many_over t (end_behind place f) fs vs x.1)
 
-rested_made : (m : Mold) (place : ℕ) (names : List (List ℕ)) (vs : List IndexView)
-    → rested m.root (places_to m.root.end m.limit) (over_parts m place names vs) ≡ created_parts m.root (places_to m.root.end m.limit) m.budget place (all_by names m.form) vs
-rested_made m place [] vs = refl
-rested_made m place (name ∷ names) [] = refl
-rested_made m place (name ∷ names) (v ∷ vs) =
-    ap (λ (ss : List Session). created_part m.root (places_to m.root.end m.limit) m.budget place (created_by name m.form) v ∷ ss) (rested_made m (end_behind place (created_by name m.form)) names vs)
+rested_made : (t : Shared) (place : ℕ) (fs : List CreatedFile) (vs : List IndexView)
+    → rested t.root (places_to t.root.end t.limit) (over_parts t place fs vs) ≡ created_parts t.root (places_to t.root.end t.limit) t.budget place fs vs
+rested_made t place [] vs = refl
+rested_made t place (f ∷ fs) [] = refl
+rested_made t place (f ∷ fs) (v ∷ vs) = ap (λ (ss : List Session). created_part t.root (places_to t.root.end t.limit) t.budget place f v ∷ ss) (rested_made t (end_behind place f) fs vs)
 
 -- the session of all of them, with nothing pending
-abbrev pub made_all : Mold → ℕ → List (List ℕ) → List IndexView → Sessions
-made_all m place names vs = record {
-  root = m.root;
-  places = places_to m.root.end m.limit;
-  parts = created_parts m.root (places_to m.root.end m.limit) m.budget place (all_by names m.form) vs;
+abbrev pub made_all : Shared → ℕ → List CreatedFile → List IndexView → Sessions
+made_all t place fs vs = record {
+  root = t.root;
+  places = places_to t.root.end t.limit;
+  parts = created_parts t.root (places_to t.root.end t.limit) t.budget place fs vs;
   stopped = false;
   keeps = false;
 }
 
-pub all_rest : (m : Mold) (place : ℕ) (names : List (List ℕ)) (vs : List IndexView) → sessions_at_rest m.root m.limit (over_parts m place names vs) ≡ made_all m place names vs
-all_rest m place names vs = ap (λ (ss : List Session). let S : Sessions = record { root = m.root; places = places_to m.root.end m.limit; parts = ss; stopped = false; keeps = false } in S) (rested_made m place names vs)
+pub all_rest : (t : Shared) (place : ℕ) (fs : List CreatedFile) (vs : List IndexView) → sessions_at_rest t.root t.limit (over_parts t place fs vs) ≡ made_all t place fs vs
+all_rest t place fs vs = ap (λ (ss : List Session). let S : Sessions = record { root = t.root; places = places_to t.root.end t.limit; parts = ss; stopped = false; keeps = false } in S) (rested_made t place fs vs)

@@ -1,5 +1,5 @@
 -- A session of several datasets that creates its file stands for the log to which nothing happened yet.
-use Rattle.std.proofs.Common.{◌≡◌, ℕ, suc, ◌*◌, ◌^◌, ◌<◌, ◌≤◌, Bool, false, List, [], ◌∷◌, ◌++◌, length, Ok, refl, sym, ◌∙◌, ap, subst, inl, inr, arith, append-nil, length-append}
+use Rattle.std.proofs.Common.{◌≡◌, ℕ, suc, ◌+◌, ◌*◌, ◌^◌, ◌<◌, ◌≤◌, Bool, false, List, [], ◌∷◌, ◌++◌, length, Ok, refl, sym, ◌∙◌, ap, subst, inl, inr, arith, append-nil, length-append}
 use Rattle.std.specs.Prelude.{map, take}
 use Rattle.std.specs.List.{AllByRecursion}
 use Rattle.std.proofs.lemmas.List.{take_all}
@@ -7,7 +7,7 @@ use Rattle.h5w_model.specs.Findings.{Used}
 use Rattle.h5w_model.specs.Images.{Holds, image, pieces}
 use Rattle.h5w_model.specs.Numbers.{range}
 use Rattle.h5w_model.specs.Relations.{AllPaired}
-use Rattle.h5w_model.specs.Several.{FileLog, shows_all}
+use Rattle.h5w_model.specs.Several.{FileLog, shown_in, shows_all}
 use Rattle.h5w_model.specs.Superblock.{super_at}
 use Rattle.h5w_model.specs.declared.piece.Write.{Write}
 use Rattle.h5w_model.specs.declared.root.Super.{Super}
@@ -30,6 +30,7 @@ use Rattle.h5w_session.proofs.PastLemmas.{ends_later}
 use Rattle.h5w_several_session_laws.specs.Began.{BeginsOver, began_end}
 use Rattle.h5w_several_session_laws.specs.Seen.{IsSeen}
 use Rattle.h5w_several_session_laws.specs.Sessions.{AfterPieceOf, AreFlushing, Sessions, all_pending}
+use Rattle.h5w_several_session_laws.specs.Courses.{AreThrough, Stand, stands_of, then_shows}
 use Rattle.h5w_several_session_laws.specs.Standing.{AreStandingParts, IsStandingPart, StandsAll, StandsOn, and_then, most_in}
 use Rattle.h5w_several_session_laws.specs.Valid.{AreValidFrom}
 use Rattle.h5w_several_session_laws.proofs.CallLemmas.{calls_stand}
@@ -85,6 +86,11 @@ some_writes fs =
     omega (arith, length-append sets (root ++ last), length-append root last)
 
 -- ---- All datasets
+
+-- before all is shown no reader finds a file
+unbegun_through : (log : FileLog) (xs : List Stand) (ws : List Write) → shown_in log.events + length ws ≤ log.first → AreThrough log xs ws
+unbegun_through log xs [] few = tt
+unbegun_through log xs (w ∷ ws) few = ((λ begun. absurd (omega (arith, begun, few))), unbegun_through (then_shows w log) xs ws (omega (arith, few)))
 
 module _ (fs : List CreatedFile) (limit budget : ℕ) (h : AreCreatable fs) (low : 1024 * length fs ≤ limit) (high : limit ≤ 2 ^ 40) where
   abbrev img : List ℕ
@@ -144,6 +150,7 @@ module _ (fs : List CreatedFile) (limit budget : ℕ) (h : AreCreatable fs) (low
         early = refl;
         going = refl;
         each = λ begun. absurd (omega (arith, begun, some_writes fs));
+        run = inr (record { calm = refl; some = λ none. absurd (let count = ap length (sym left_is ∙ none) in omega (arith, count, some_writes fs)); first = let count = ap length left_is in omega (arith, count) });
         phase = inl (record { calm = inr refl; own = own_log; seen = seen d left left_is; runs = runs });
       } in
       record {
@@ -197,6 +204,7 @@ module _ (fs : List CreatedFile) (limit budget : ℕ) (h : AreCreatable fs) (low
           ends = subst (λ (ws : List Write). AllEndBy (most_in t log) ws) (sym left_is) (ends_later (end_of fs) (most_in t log) (created_writes fs) (omega (arith, end, low)) (writes_end (end_of fs) (created_writes fs) sizes.within));
           going = refl;
           valid = valid;
+          course = unbegun_through log (stands_of 0 log.sets (entry_names made.entries)) left (let count = ap length left_is in omega (arith, count));
         }
 
     pub creating : IsCreating fs S

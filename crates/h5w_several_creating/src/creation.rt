@@ -1,14 +1,13 @@
 //! A session of several datasets that creates its file.
 ghost use Rattle.std.specs.Prelude.{◌≡◌, ◌*◌, ◌^◌, ◌≤◌, [], IfOk, length};
-ghost use Rattle.h5w_creation.specs.Forms.{IsForm};
 ghost use Rattle.h5w_several_creation_laws.specs.SeveralFiles.{AllNamed, created_writes};
-ghost use Rattle.h5w_several_creation.specs.Forms.{AreNames, all_by};
+ghost use Rattle.h5w_several_creation.specs.Forms.{AreForms, AreNames, each_by};
 ghost use Rattle.h5w_several_session_laws.specs.Sessions.{all_pending};
 ghost use Rattle.h5w_several_session_laws.specs.Standing.{StandsAll};
 ghost use Rattle.h5w_several_creating.specs.Created.{IsCreatedAll, IsShownAll, created_file, led, shown_file};
 
-use crate::parts::{Mold, add_parts};
-use h5w_creation::{Form, create_file};
+use crate::parts::{Shared, add_parts};
+use h5w_creation::Form;
 use h5w_model::{OutOfMemory, Write};
 use h5w_names::Names;
 use h5w_several_creation::{create_files, first_place};
@@ -25,50 +24,41 @@ pub struct NewSession {
     pub session: SeveralWriter,
 }
 
-/// A new file with a dataset of this form under each of these names, and the session that appends rows to all, up to
-/// `limit` bytes of the file, of which at most `budget` bytes of each dataset wait unwritten. Refused only for want of
-/// memory: nothing was done then.
+/// A new file with a dataset under each of these names, each by the form at its place, and the session that appends rows
+/// to all, up to `limit` bytes of the file, of which at most `budget` bytes of each dataset wait unwritten. Refused only
+/// for want of memory: nothing was done then.
 pub fn create(
     alloc: Global,
     names: &Names,
-    form: &Form,
+    forms: &[Form],
     limit: u64,
     budget: u64,
 ) -> Result<NewSession, OutOfMemory>
-    requires form { IsForm form.now }
+    requires forms { AreForms names.now forms.now }
     requires names { AreNames names.now }
     requires named { AllNamed names.now }
     requires low { 1024 * length names.now ≤ limit }
     requires high { limit ≤ 2 ^ 40 }
     requires budget { (1024 ≤ budget) × (budget ≤ 2 ^ 30) }
-    ensures writes { IfOk result (λ c. c.writes.items ≡ created_writes (all_by names.now form.now)) }
+    ensures writes { IfOk result (λ c. c.writes.items ≡ created_writes (each_by names.now forms.now)) }
     // with these pieces pending it is the session that creates the file
-    ensures session { IfOk result (λ c. IsCreatedAll (all_by names.now form.now) limit budget (led c.writes.items c.session)) }
-    ensures begins { IfOk result (λ c. StandsAll (led c.writes.items c.session) (created_file (all_by names.now form.now))) }
+    ensures session { IfOk result (λ c. IsCreatedAll (each_by names.now forms.now) limit budget (led c.writes.items c.session)) }
+    ensures begins { IfOk result (λ c. StandsAll (led c.writes.items c.session) (created_file (each_by names.now forms.now))) }
     // by itself it is that session once they are shown
-    ensures shown { IfOk result (λ c. IsShownAll (all_by names.now form.now) limit budget c.session) }
+    ensures shown { IfOk result (λ c. IsShownAll (each_by names.now forms.now) limit budget c.session) }
     // and it stands for the log in which they are
-    ensures stands { IfOk result (λ c. StandsAll c.session (shown_file (all_by names.now form.now))) }
+    ensures stands { IfOk result (λ c. StandsAll c.session (shown_file (each_by names.now forms.now))) }
     ensures idle { IfOk result (λ c. all_pending c.session.parts ≡ []) }
 {
-    let created = create_files(alloc, names, form)?;
-    let one = create_file(alloc, b"a", form)?;
-    let mold = Mold {
+    let created = create_files(alloc, names, forms)?;
+    let shared = Shared {
         root: created.root,
-        form: *form,
-        grid: one.grid,
-        header_len: one.header.len() as u64,
         limit,
         budget,
     };
+    let first = first_place(names);
     let mut parts = Vec::new(alloc);
-    add_parts(
-        alloc,
-        names.as_slice(),
-        &mold,
-        first_place(names),
-        &mut parts,
-    )?;
+    add_parts(alloc, names.as_slice(), forms, &shared, first, &mut parts)?;
     Ok(NewSession {
         writes: created.writes,
         session: SeveralWriter::at_rest(parts, created.root, limit),

@@ -1,38 +1,63 @@
 //! The sessions over the datasets of a new file, as they begin once its pieces are visible.
 ghost use Rattle.std.specs.Prelude.{◌≡◌, ◌≤◌, IfOk, OnOk, length};
 ghost use Rattle.std.specs.List.{AllByRecursion};
-ghost use Rattle.h5w_creation.specs.Forms.{created_by};
+ghost use Rattle.h5w_creation.specs.Forms.{IsForm, created_by};
 ghost use Rattle.h5w_several_creation_laws.specs.SeveralFiles.{end_behind, end_from};
-ghost use Rattle.h5w_several_creation.specs.Forms.{HasRoom, all_by};
-ghost use Rattle.h5w_several_creating.specs.Parts.{AddsParts, IsMold, IsPartOver};
+ghost use Rattle.h5w_several_creation.specs.Forms.{HasRoom, each_by};
+ghost use Rattle.h5w_several_creating.specs.Parts.{AddsParts, IsMold, IsPartOver, IsShared};
 
 use h5w_chunks::{Grid, Layout};
-use h5w_creation::{ARRAY_LEN, Form, dataset_header, index_len, new_index};
+use h5w_creation::{ARRAY_LEN, Form, create_file, dataset_header, index_len, new_index};
 use h5w_model::{Bytes, OutOfMemory, Super};
 use h5w_session::{FileParts, WriterCore};
 use std::alloc::Global;
 
-/// What the sessions over all datasets of a new file begin with.
+/// What the sessions over all datasets of a new file have alike.
 #[derive(Clone, Copy)]
-pub(crate) struct Mold {
+pub(crate) struct Shared {
     /// The file's superblock.
     pub(crate) root: Super,
-    pub(crate) form: Form,
-    /// A dataset of this form, wherever its index stands, and how many bytes its header has.
-    pub(crate) grid: Grid,
-    pub(crate) header_len: u64,
     /// How many bytes the file may have at most, and how many of a dataset may wait unwritten.
     pub(crate) limit: u64,
     pub(crate) budget: u64,
 }
 
+/// A dataset of a form, wherever its index stands, and how many bytes its header has.
+#[derive(Clone, Copy)]
+struct Mold {
+    form: Form,
+    grid: Grid,
+    header_len: u64,
+}
+
+/// What a dataset of this form is made by.
+fn mold_of(alloc: Global, form: &Form) -> Result<Mold, OutOfMemory>
+    requires { IsForm form.now }
+    ensures mold { IfOk result IsMold }
+    ensures form { IfOk result (λ mold. mold.form ≡ form.now) }
+{
+    let one = create_file(alloc, b"a", form)?;
+    Ok(Mold {
+        form: *form,
+        grid: one.grid,
+        header_len: one.header.len() as u64,
+    })
+}
+
 /// The session over the dataset of this name, whose header stands at `place`: the superblock is pending.
-fn part_at(alloc: Global, name: &[u8], mold: &Mold, place: u64) -> Result<WriterCore, OutOfMemory>
+fn part_at(
+    alloc: Global,
+    name: &[u8],
+    mold: &Mold,
+    shared: &Shared,
+    place: u64,
+) -> Result<WriterCore, OutOfMemory>
     requires mold { IsMold mold.now }
+    requires shared { IsShared shared.now }
     requires name { HasRoom name.now }
     requires begun { 48 ≤ place }
-    requires ends { end_behind place (created_by name.now mold.now.form) ≤ mold.now.root.end }
-    ensures { IfOk result (IsPartOver mold.now place name.now) }
+    requires ends { end_behind place (created_by name.now mold.now.form) ≤ shared.now.root.end }
+    ensures { IfOk result (IsPartOver shared.now place (created_by name.now mold.now.form)) }
 {
     let address = place + mold.header_len;
     let grid = Grid {
@@ -52,35 +77,38 @@ fn part_at(alloc: Global, name: &[u8], mold: &Mold, place: u64) -> Result<Writer
         &mut writes,
     )?;
     let file = FileParts {
-        root: mold.root,
+        root: shared.root,
         place,
         header: dataset_header(alloc, &grid)?,
         grid,
         index,
     };
-    WriterCore::over(alloc, name, file, mold.limit, mold.budget)
+    WriterCore::over(alloc, name, file, shared.limit, shared.budget)
 }
 
-/// Puts the sessions over the datasets of these names, the first of which has its header at `place`, behind others.
+/// Puts the sessions over the datasets of these names, each by the form at its place, behind others. The first has its
+/// header at `place`.
 pub(crate) fn add_parts(
     alloc: Global,
     names: &[Bytes],
-    mold: &Mold,
+    forms: &[Form],
+    shared: &Shared,
     place: u64,
     parts: &mut Vec<WriterCore>,
 ) -> Result<(), OutOfMemory>
-    requires mold { IsMold mold.now }
+    requires shared { IsShared shared.now }
     requires names { AllByRecursion HasRoom names.now }
+    requires forms { AllByRecursion IsForm forms.now }
     requires begun { 48 ≤ place }
-    requires ends { end_from place (all_by names.now mold.now.form) ≤ mold.now.root.end }
-    ensures { OnOk result (AddsParts mold.now place names.now parts.old.items parts.new.items) }
+    requires ends { end_from place (each_by names.now forms.now) ≤ shared.now.root.end }
+    ensures { OnOk result (AddsParts shared.now place (each_by names.now forms.now) parts.old.items parts.new.items) }
 {
-    match names.split_first() {
-        None => Ok(()),
-        Some((name, rest)) => {
-            parts.push(part_at(alloc, name.as_slice(), mold, place)?)?;
-            let next = place + mold.header_len + index_len(mold.form.index);
-            add_parts(alloc, rest, mold, next, parts)
-        }
-    }
+    let (Some((name, rest)), Some((form, others))) = (names.split_first(), forms.split_first())
+    else {
+        return Ok(());
+    };
+    let mold = mold_of(alloc, form)?;
+    parts.push(part_at(alloc, name.as_slice(), &mold, shared, place)?)?;
+    let next = place + mold.header_len + index_len(form.index);
+    add_parts(alloc, rest, others, shared, next, parts)
 }

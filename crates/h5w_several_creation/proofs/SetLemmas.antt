@@ -1,5 +1,5 @@
 -- The blocks of a dataset, and how long the headers of a new file are.
-use Rattle.std.proofs.Common.{◌≡◌, ℕ, ◌+◌, ◌*◌, ◌≤◌, cond, leb, List, [], ◌∷◌, ◌++◌, length, append_assoc, drop, refl, ap, ◌∙◌, inl, inr, arith}
+use Rattle.std.proofs.Common.{◌≡◌, ℕ, ◌+◌, ◌*◌, ◌≤◌, cond, leb, List, [], ◌∷◌, ◌++◌, length, replicate, append_assoc, refl, sym, ap, ◌∙◌, subst, inl, inr, arith}
 use Rattle.std.specs.Prelude.{map}
 use Rattle.std.specs.List.{AllByRecursion, sum_by}
 use Rattle.std.proofs.lemmas.Bool.{cases_Bool}
@@ -23,10 +23,10 @@ use Rattle.h5w_creation.specs.Forms.{IsForm}
 use Rattle.h5w_creation.specs.Made.{index_writes}
 use Rattle.h5w_creation.specs.declared.form.Form.{Form}
 use Rattle.h5w_creation.proofs.FormLemmas.{creatable}
-use Rattle.h5w_several_creation_laws.specs.SeveralFiles.{index_behind, end_from, links_len, links_from, first_place, end_of, root_messages, root_bytes, header_at, index_at, set_at, sets_from, all_sets, super_block, created_writes}
-use Rattle.h5w_several_creation_laws.proofs.PlaceLemmas.{end_above, end_bound, root_bound}
+use Rattle.h5w_several_creation_laws.specs.SeveralFiles.{AllNamed, AreCreatable, names_of, index_behind, end_from, links_len, links_from, first_place, end_of, root_messages, root_bytes, header_at, index_at, set_at, sets_from, all_sets, super_block, created_writes}
+use Rattle.h5w_several_creation_laws.proofs.PlaceLemmas.{end_bound, root_bound}
 use Rattle.h5w_several_creation_laws.proofs.RootLemmas.{messages_long}
-use Rattle.h5w_several_creation.specs.Forms.{AreNames, HasRoom, all_by, any_by, with_address}
+use Rattle.h5w_several_creation.specs.Forms.{AreForms, AreNames, HasRoom, any_by, each_by, with_address}
 use Rattle.h5w_several_creation.proofs.HeaderLemmas.{moved_header}
 
 -- ---- The root header
@@ -42,20 +42,22 @@ prefix_few n = elim (cases_Bool (leb n 255)) [
 pub root_fits : (ms : List Msg) → length (msgs_bytes ms) ≤ 660 → length (header_bytes ms) ≤ 672
 root_fits ms h = omega (arith, length-header_bytes ms, prefix_few (length (msgs_bytes ms)))
 
--- ---- The names
+-- ---- The names and forms
 
-pub all_creatable : (names : List (List ℕ)) (form : Form) → IsForm form → AllByRecursion HasRoom names → AllByRecursion IsCreatable (all_by names form)
-all_creatable [] form h each = tt
-all_creatable (name ∷ names) form h each = (creatable name form h each.0.0 each.0.1, all_creatable names form h each.1)
+pub all_creatable : (names : List (List ℕ)) (forms : List Form) → AllByRecursion IsForm forms → AllByRecursion HasRoom names → AllByRecursion IsCreatable (each_by names forms)
+all_creatable [] forms is each = tt
+all_creatable (name ∷ names) [] is each = tt
+all_creatable (name ∷ names) (form ∷ forms) is each = (creatable name form is.0 each.0.0 each.0.1, all_creatable names forms is.1 each.1)
 
 abbrev pub link_len : List ℕ → ℕ
 link_len name = 15 + length name
 
-pub names_sum : (names : List (List ℕ)) (form : Form) → sum_by link_len names ≡ links_len (all_by names form)
-names_sum [] form = refl
-names_sum (name ∷ names) form =
+pub names_sum : (names : List (List ℕ)) (forms : List Form) → length forms ≡ length names → sum_by link_len names ≡ links_len (each_by names forms)
+names_sum [] forms many = refl
+names_sum (name ∷ names) [] many = absurd (omega (arith, many))
+names_sum (name ∷ names) (form ∷ forms) many =
     let one = sum_by-cons link_len name names in
-    let rest = names_sum names form in
+    let rest = names_sum names forms (omega (arith, many)) in
     omega arith
 
 pub names_short : (names : List (List ℕ)) → AllByRecursion HasRoom names → sum_by link_len names ≤ 79 * length names
@@ -66,41 +68,62 @@ names_short (name ∷ names) each =
     let short = each.0.1 in
     omega arith
 
-pub as_many : (names : List (List ℕ)) (form : Form) → length (all_by names form) ≡ length names
-as_many [] form = refl
-as_many (name ∷ names) form = let rest = as_many names form in omega arith
+pub as_many : (names : List (List ℕ)) (forms : List Form) → length forms ≡ length names → length (each_by names forms) ≡ length names
+as_many [] forms many = refl
+as_many (name ∷ names) [] many = absurd (omega (arith, many))
+as_many (name ∷ names) (form ∷ forms) many = let rest = as_many names forms (omega (arith, many)) in omega arith
 
-pub messages_few : (names : List (List ℕ)) (form : Form) → AreNames names → length (msgs_bytes (root_messages (all_by names form))) ≤ 660
-messages_few names form h =
+-- one form for each name
+pub same_forms : (names : List (List ℕ)) (form : Form) → IsForm form → AreForms names (replicate (length names) form)
+same_forms [] form is = record { many = refl; each = tt }
+same_forms (name ∷ names) form is =
+    let rest = same_forms names form is in
+    let many = rest.many in
+    record { many = omega (arith, many); each = (is, rest.each) }
+
+pub names_same : (names : List (List ℕ)) (forms : List Form) → length forms ≡ length names → names_of (each_by names forms) ≡ names
+names_same [] forms many = refl
+names_same (name ∷ names) [] many = absurd (omega (arith, many))
+names_same (name ∷ names) (form ∷ forms) many = ap (λ (ns : List (List ℕ)). name ∷ ns) (names_same names forms (omega (arith, many)))
+
+-- a file can be created by them, where no two names are the same
+pub are_creatable : (names : List (List ℕ)) (forms : List Form) → AreForms names forms → AreNames names → AllNamed names → AreCreatable (each_by names forms)
+are_creatable names forms fits are named =
+    let many = as_many names forms fits.many in
+    let some = are.some in
+    let few = are.few in
+    record {
+      some = omega (arith, many, some);
+      few = omega (arith, many, few);
+      each = all_creatable names forms fits.each are.each;
+      named = subst AllNamed (sym (names_same names forms fits.many)) named;
+    }
+
+pub messages_few : (names : List (List ℕ)) (forms : List Form) → length forms ≡ length names → AreNames names → length (msgs_bytes (root_messages (each_by names forms))) ≤ 660
+messages_few names forms many h =
     let few = h.few in
     let short = names_short names h.each in
-    let sum = names_sum names form in
-    omega (arith, messages_long (all_by names form))
+    let sum = names_sum names forms many in
+    omega (arith, messages_long (each_by names forms))
 
-pub place_is : (names : List (List ℕ)) (form : Form) (len head : ℕ) → len ≡ sum_by link_len names → head ≡ cond (leb (28 + len) 255) 11 12 → 48 + (head + (28 + len)) ≡ first_place (all_by names form)
-place_is names form len head is by =
+pub place_is : (names : List (List ℕ)) (forms : List Form) (len head : ℕ) → length forms ≡ length names → len ≡ sum_by link_len names → head ≡ cond (leb (28 + len) 255) 11 12 → 48 + (head + (28 + len)) ≡ first_place (each_by names forms)
+place_is names forms len head many is by =
     ap (λ (h : ℕ). 48 + (h + (28 + len))) by
-    ∙ ap (λ (n : ℕ). 48 + (cond (leb (28 + n) 255) 11 12 + (28 + n))) (is ∙ names_sum names form)
+    ∙ ap (λ (n : ℕ). 48 + (cond (leb (28 + n) 255) 11 12 + (28 + n))) (is ∙ names_sum names forms many)
 
 pub names_few : (names : List (List ℕ)) → AreNames names → sum_by link_len names ≤ 632
 names_few names h = let few = h.few in let short = names_short names h.each in omega arith
 
-pub first_low : (names : List (List ℕ)) (form : Form) → AreNames names → first_place (all_by names form) ≤ 1024
-first_low names form h =
-    let few = h.few in
-    let short = names_short names h.each in
-    let sum = names_sum names form in
-    let root = root_bound (all_by names form) in
-    omega arith
-
--- the place of a dataset, where some are left
-pub place_low : (names : List (List ℕ)) (form : Form) (first at : ℕ) (rest : List CreatedFile) → IsForm form → AreNames names → first ≤ 1024 → end_from at rest ≡ end_from first (all_by names form) → at ≤ 8192
-place_low names form first at rest h are low same =
+-- where the datasets end
+pub ends_low : (names : List (List ℕ)) (forms : List Form) (first : ℕ) → AreForms names forms → AreNames names → first ≡ first_place (each_by names forms) → end_from first (each_by names forms) ≤ 8192
+ends_low names forms first fits are is =
     let few = are.few in
-    let above = end_above at rest in
-    let end = end_bound first (all_by names form) (all_creatable names form h are.each) in
-    let many = as_many names form in
-    omega arith
+    let short = names_short names are.each in
+    let sum = names_sum names forms fits.many in
+    let root = root_bound (each_by names forms) in
+    let end = end_bound first (each_by names forms) (all_creatable names forms fits.each are.each) in
+    let many = as_many names forms fits.many in
+    omega (arith, is)
 
 -- ---- One dataset
 
@@ -131,37 +154,20 @@ set_put form place len header piece old mid new h is long index moved all =
     ∙ ap (λ (b : List ℕ). old ++ (index_writes k at (at + 72) ++ one b ∷ [])) (header_moved form place)
     ∙ ap (λ (ws : List Write). old ++ ws) (set_writes k place (any_by form))
 
--- ---- One after the other
+-- ---- All of them
 
--- what is left begins with the next name
-abbrev pub left_of : List (List ℕ) → ℕ → Form → List CreatedFile
-left_of names i form = all_by (drop i names) form
+pub links_are : (fs : List CreatedFile) (first : ℕ) (start ls : List Msg) → first ≡ first_place fs
+    → start ≡ message link_info_kind link_info_bytes ∷ message group_info_kind group_info_bytes ∷ [] → ls ≡ start ++ links_from first fs → ls ≡ root_messages fs
+links_are fs first start ls place infos all =
+    all ∙ ap (λ (ms : List Msg). ms ++ links_from first fs) infos
+    ∙ ap (λ (n : ℕ). message link_info_kind link_info_bytes ∷ message group_info_kind group_info_bytes ∷ links_from n fs) place
 
--- What is done and what is left of the datasets from a place on makes all: their end, the links and the pieces.
-pub record IsUnderway (names : List (List ℕ)) (form : Form) (first i at : ℕ) (ls before : List Msg) (ws begun : List Write) : Type 0 where
-  pub end : end_from at (left_of names i form) ≡ end_from first (all_by names form)
-  pub links : ls ++ links_from at (left_of names i form) ≡ before ++ links_from first (all_by names form)
-  pub writes : ws ++ map block_write (sets_from at (left_of names i form)) ≡ begun ++ map block_write (sets_from first (all_by names form))
-
--- once none is left all are done
-pub record IsDone (names : List (List ℕ)) (form : Form) (first at : ℕ) (ls before : List Msg) (ws begun : List Write) : Type 0 where
-  pub end : at ≡ end_from first (all_by names form)
-  pub links : ls ≡ before ++ links_from first (all_by names form)
-  pub writes : ws ≡ begun ++ map block_write (sets_from first (all_by names form))
-
-pub links_are : (names : List (List ℕ)) (form : Form) (first : ℕ) (start ls : List Msg) → first ≡ first_place (all_by names form)
-    → start ≡ message link_info_kind link_info_bytes ∷ message group_info_kind group_info_bytes ∷ [] → ls ≡ start ++ links_from first (all_by names form) → ls ≡ root_messages (all_by names form)
-links_are names form first start ls place infos all =
-    all ∙ ap (λ (ms : List Msg). ms ++ links_from first (all_by names form)) infos
-    ∙ ap (λ (n : ℕ). message link_info_kind link_info_bytes ∷ message group_info_kind group_info_bytes ∷ links_from n (all_by names form)) place
-
-pub all_put : (names : List (List ℕ)) (form : Form) (first end : ℕ) (start ls : List Msg) (begun sets root all : List Write) (w : Write) (s : Super) → first ≡ first_place (all_by names form)
-    → start ≡ message link_info_kind link_info_bytes ∷ message group_info_kind group_info_bytes ∷ [] → ls ≡ start ++ links_from first (all_by names form) → begun ≡ []
-    → sets ≡ begun ++ map block_write (sets_from first (all_by names form)) → root ≡ sets ++ pieces root_place (header_bytes ls) → end ≡ end_from first (all_by names form)
-    → s ≡ record { version = 3; flags = 5; end = end; root = root_place } → w ≡ record { at = 0; piece = super_bytes s } → all ≡ root ++ w ∷ [] → all ≡ created_writes (all_by names form)
-all_put names form first end start ls begun sets root all w s place infos links none own head last super piece done =
-    let fs = all_by names form in
-    let messages = links_are names form first start ls place infos links in
+pub all_put : (fs : List CreatedFile) (first end : ℕ) (start ls : List Msg) (begun sets root all : List Write) (w : Write) (s : Super) → first ≡ first_place fs
+    → start ≡ message link_info_kind link_info_bytes ∷ message group_info_kind group_info_bytes ∷ [] → ls ≡ start ++ links_from first fs → begun ≡ []
+    → sets ≡ begun ++ map block_write (sets_from first fs) → root ≡ sets ++ pieces root_place (header_bytes ls) → end ≡ end_from first fs
+    → s ≡ record { version = 3; flags = 5; end = end; root = root_place } → w ≡ record { at = 0; piece = super_bytes s } → all ≡ root ++ w ∷ [] → all ≡ created_writes fs
+all_put fs first end start ls begun sets root all w s place infos links none own head last super piece done =
+    let messages = links_are fs first start ls place infos links in
     let a : sets ≡ map block_write (all_sets fs) = own ∙ ap (λ (ws : List Write). ws ++ map block_write (sets_from first fs)) none ∙ ap (λ (n : ℕ). map block_write (sets_from n fs)) place in
     let b : root ≡ map block_write (all_sets fs) ++ pieces root_place (root_bytes fs) =
     head ∙ ap (λ (ws : List Write). ws ++ pieces root_place (header_bytes ls)) a ∙ ap (λ (ms : List Msg). map block_write (all_sets fs) ++ pieces root_place (header_bytes ms)) messages in

@@ -1,16 +1,16 @@
 //! A new file of several datasets, and the pieces that make it.
 ghost use Rattle.std.specs.Prelude.{◌≡◌, ◌+◌, ◌<◌, ◌≤◌, ◌^◌, ◌∷◌, ◌++◌, [], length, map, IfOk, OnOk};
+ghost use Rattle.std.specs.List.{AllByRecursion};
 ghost use Rattle.h5w_model.specs.Superblock.{super_bytes};
-ghost use Rattle.h5w_header_laws.specs.Spelled.{spelled_header};
-ghost use Rattle.h5w_creation_laws.specs.CreatedFiles.{block_write, described_of, root_place};
+ghost use Rattle.h5w_creation_laws.specs.CreatedFiles.{block_write, root_place};
 ghost use Rattle.h5w_creation.specs.Forms.{IsForm};
 ghost use Rattle.h5w_several_creation_laws.specs.SeveralFiles as files;
-ghost use Rattle.h5w_several_creation.specs.Forms.{AreNames, all_by, any_by};
+ghost use Rattle.h5w_several_creation.specs.Forms.{AreForms, AreNames, HasRoom, each_by};
 
 use crate::root::{first_place, put_root};
-use crate::set::{header_of, put_set};
+use crate::set::put_set;
 use h5w_creation::{Form, OPEN, link_message, root_start, super_write, superblock};
-use h5w_model::{OutOfMemory, Super, Write};
+use h5w_model::{Bytes, OutOfMemory, Super, Write};
 use h5w_names::Names;
 use h5w_ohdr::Msgs;
 use std::alloc::Global;
@@ -30,42 +30,50 @@ pub fn closing(end: u64) -> Write
     super_write(&superblock(0, end))
 }
 
-/// Adds the pieces of the datasets of these names, the first of which stands at `first`, and the links to them. Answers where they end.
+/// Adds the pieces of the datasets of these names, each by the form at its place, the first of which stands at `first`, and the links to them.
+/// Answers where they end.
 fn put_sets(
     alloc: Global,
-    names: &Names,
-    form: &Form,
+    names: &[Bytes],
+    forms: &[Form],
     first: u64,
     links: &mut Msgs,
     writes: &mut Vec<Write>,
 ) -> Result<u64, OutOfMemory>
-    requires form { IsForm form.now }
-    requires names { AreNames names.now }
-    requires first { first ≤ 1024 }
-    ensures end { IfOk result (λ end. end ≡ files.end_from first (all_by names.now form.now)) }
-    ensures links { OnOk result (links.new ≡ links.old ++ files.links_from first (all_by names.now form.now)) }
-    ensures writes { OnOk result (writes.new.items ≡ writes.old.items ++ map block_write (files.sets_from first (all_by names.now form.now))) }
+    requires forms { AllByRecursion IsForm forms.now }
+    requires names { AllByRecursion HasRoom names.now }
+    requires low { files.end_from first (each_by names.now forms.now) ≤ 8192 }
+    ensures end { IfOk result (λ end. end ≡ files.end_from first (each_by names.now forms.now)) }
+    ensures links { OnOk result (links.new ≡ links.old ++ files.links_from first (each_by names.now forms.now)) }
+    ensures writes { OnOk result (writes.new.items ≡ writes.old.items ++ map block_write (files.sets_from first (each_by names.now forms.now))) }
 {
-    let header = header_of(alloc, form)?;
-    let mut at = first;
-    for name in names.as_slice() {
-        links.push(link_message(alloc, name.as_slice(), at)?)?;
-        at = put_set(alloc, form, &header, at, writes)?;
-    }
-    Ok(at)
+    let (Some((name, rest)), Some((form, others))) = (names.split_first(), forms.split_first())
+    else {
+        return Ok(first);
+    };
+    links.push(link_message(alloc, name.as_slice(), first)?)?;
+    let next = put_set(alloc, form, first, writes)?;
+    put_sets(alloc, rest, others, next, links, writes)
 }
 
-/// A new file with a dataset of this form under each of these names, in their order.
-pub fn create_files(alloc: Global, names: &Names, form: &Form) -> Result<Creations, OutOfMemory>
-    requires form { IsForm form.now }
+/// A new file with a dataset under each of these names, in their order, each by the form at its place.
+pub fn create_files(alloc: Global, names: &Names, forms: &[Form]) -> Result<Creations, OutOfMemory>
+    requires forms { AreForms names.now forms.now }
     requires names { AreNames names.now }
-    ensures root { IfOk result (λ c. c.root ≡ files.super_of 5 (all_by names.now form.now)) }
-    ensures writes { IfOk result (λ c. c.writes.items ≡ files.created_writes (all_by names.now form.now)) }
+    ensures root { IfOk result (λ c. c.root ≡ files.super_of 5 (each_by names.now forms.now)) }
+    ensures writes { IfOk result (λ c. c.writes.items ≡ files.created_writes (each_by names.now forms.now)) }
 {
     let mut writes = Vec::new(alloc);
     let mut links = root_start(alloc)?;
     let first = first_place(names);
-    let end = put_sets(alloc, names, form, first, &mut links, &mut writes)?;
+    let end = put_sets(
+        alloc,
+        names.as_slice(),
+        forms,
+        first,
+        &mut links,
+        &mut writes,
+    )?;
     put_root(&links, &mut writes)?;
     let root = superblock(OPEN, end);
     writes.push(super_write(&root))?;

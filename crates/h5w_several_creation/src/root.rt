@@ -1,5 +1,5 @@
 //! The root header of a file of several datasets.
-ghost use Rattle.std.specs.Prelude.{◌≡◌, ◌+◌, ◌<◌, ◌≤◌, ◌^◌, ◌∷◌, ◌++◌, [], length, nat_le, if◌then◌else◌, IfOk, OnOk};
+ghost use Rattle.std.specs.Prelude.{◌≡◌, ◌+◌, ◌<◌, ◌≤◌, ◌^◌, ◌∷◌, ◌++◌, [], List, length, nat_le, if◌then◌else◌, IfOk, OnOk};
 ghost use Rattle.std.specs.List.{sum_by};
 ghost use Rattle.h5w_model.specs.Headers.{header_bytes, msgs_bytes};
 ghost use Rattle.h5w_model.specs.Images.{pieces};
@@ -8,7 +8,7 @@ ghost use Rattle.h5w_header_laws.specs.Spelled.{message};
 ghost use Rattle.h5w_creation_laws.specs.CreatedFiles.{group_info_kind, root_place};
 ghost use Rattle.h5w_several_creation_laws.specs.SeveralFiles.{first_place};
 ghost use Rattle.h5w_creation.specs.declared.form.Form.{Form};
-ghost use Rattle.h5w_several_creation.specs.Forms.{AreNames, all_by};
+ghost use Rattle.h5w_several_creation.specs.Forms.{AreNames, each_by};
 
 use h5w_cache::put_pieces;
 use h5w_creation::ROOT_PLACE;
@@ -49,7 +49,7 @@ fn head_of(size: usize) -> usize
 /// Where the first dataset header stands, behind the root header of these names.
 pub fn first_place(names: &Names) -> u64
     requires { AreNames names.now }
-    ensures { (form : Form) → result ≡ first_place (all_by names.now form) }
+    ensures { (forms : List Form) → length forms ≡ length names.now → result ≡ first_place (each_by names.now forms) }
 {
     let size = INFOS + links_len(names);
     ROOT_PLACE + (head_of(size) + size) as u64

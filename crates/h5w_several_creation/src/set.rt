@@ -14,7 +14,7 @@ use h5w_sum::seal;
 use std::alloc::Global;
 
 /// The dataset header of a file of one dataset of this form.
-pub fn header_of(alloc: Global, form: &Form) -> Result<Piece, OutOfMemory>
+fn header_of(alloc: Global, form: &Form) -> Result<Piece, OutOfMemory>
     requires { IsForm form.now }
     ensures { IfOk result (λ p. p ≡ spelled_header (described_of (any_by form.now))) }
 {
@@ -44,26 +44,24 @@ fn header_at(header: &Piece, address: u64) -> Piece
     Piece::of(chunk)
 }
 
-/// Adds the pieces of a dataset of this form, whose header stands at `place`; `header` is that of a file of one. Answers where its blocks
-/// end.
+/// Adds the pieces of a dataset of this form, whose header stands at `place`. Answers where its blocks end.
 pub fn put_set(
     alloc: Global,
     form: &Form,
-    header: &Piece,
     place: u64,
     writes: &mut Vec<Write>,
 ) -> Result<u64, OutOfMemory>
     requires form { IsForm form.now }
-    requires header { header.now ≡ spelled_header (described_of (any_by form.now)) }
     requires place { place < 2 ^ 32 }
     ensures end { IfOk result (λ end. end ≡ end_behind place (any_by form.now)) }
     ensures writes { OnOk result (writes.new.items ≡ writes.old.items ++ map block_write (set_at place (any_by form.now))) }
 {
+    let header = header_of(alloc, form)?;
     let index = place + header.len() as u64;
     put_index(alloc, form.index, index, writes)?;
     writes.push(Write {
         at: place,
-        piece: header_at(header, index),
+        piece: header_at(&header, index),
     })?;
     Ok(index + index_len(form.index))
 }

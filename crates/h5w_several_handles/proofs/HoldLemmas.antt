@@ -1,13 +1,14 @@
 -- What a handle holds behind the calls that begin a writer of several datasets.
-use Rattle.std.proofs.Common.{◌≡◌, ◌∙◌, ℕ, ◌<◌, ◌^◌, Bool, true, false, List, [], ◌∷◌, length, map, Option, Some, None, Result, Ok, Err, ap, refl, sym, subst, inl, inr, arith}
-use Rattle.std.specs.Prelude.{IfOk, IfErr}
+use Rattle.std.proofs.Common.{◌≡◌, ◌∙◌, ℕ, suc, ◌<◌, ◌≤◌, ◌^◌, Bool, true, false, List, [], ◌∷◌, ◌++◌, length, append_assoc, append-nil, Option, Some, None, Result, Ok, Err, ap, refl, sym, subst, inl, inr, arith}
+use Rattle.std.specs.Prelude.{IfOk, IfErr, OnOk}
+use Rattle.std.specs.List.{AllByRecursion}
 use Rattle.h5w_model.specs.Causes.{Rose}
 use Rattle.h5w_model.specs.Findings.{AllSummary, AllValid}
 use Rattle.h5w_model.specs.Relations.{AllPaired}
 use Rattle.h5w_model.specs.Several.{Begun}
 use Rattle.h5w_model.specs.declared.piece.Write.{Write}
 use Rattle.h5w_options.specs.declared.options.Options.{Options}
-use Rattle.h5w_creation.specs.Forms.{a_name, created_by}
+use Rattle.h5w_creation.specs.Forms.{IsForm, a_name, created_by}
 use Rattle.h5w_creation.specs.declared.form.Form.{Form}
 use Rattle.h5w_creation_laws.specs.CreatedFiles.{CreatedFile}
 use Rattle.h5w_form.specs.NewFiles.{new_file}
@@ -15,7 +16,7 @@ use Rattle.h5w_looks.specs.Still.{IsStill}
 use Rattle.h5w_opening.specs.Errors.{IsOpenKind}
 use Rattle.h5w_opening.specs.declared.error.OpenError.{OpenError}
 use Rattle.h5w_opening.specs.declared.error.OpenError.TheVariants as failing
-use Rattle.h5w_several_creation.specs.Forms.{all_by}
+use Rattle.h5w_several_creation.specs.Forms.{AreForms, each_by}
 use Rattle.h5w_several_creation_laws.specs.SeveralFiles.{created_writes}
 use Rattle.h5w_several_creating.specs.Created.{IsCreatedAll, created_file, led, shown_file}
 use Rattle.h5w_several_open.specs.Begins.{ReadsIt}
@@ -33,25 +34,79 @@ use Rattle.h5w_writer_handles.specs.Handles.{Refuses}
 use Rattle.h5w_writer_handles.specs.declared.options.H5wOptions.{H5wOptions}
 use Rattle.h5w_writer_handles.proofs.HoldLemmas.{given}
 use Rattle.h5w_several_handles.specs.Handles.{CreatesNamed, CreatesSet, HoldsSet, OpensNamed, OpensSet}
-use Rattle.h5w_several_handles.specs.Names.{AreSetBounds, AreSetOptions, files_by, names_in}
+use Rattle.h5w_several_handles.specs.Names.{AddsForms, AreSetBounds, AreSetOptions, IsFormOf, budget_of, files_by, limit_of, names_in}
 use Rattle.h5w_several_handles.specs.Sets.{HasBegunBy, IsAnswerBy, IsNewSet, IsOpenedSet, StandsOver, pending_of}
 use Rattle.h5w_several_handles.proofs.PieceLemmas.{idle_behind, none_left}
 
 -- ---- Creating
 
--- the form of the options makes their datasets, under any name
-by_form : (names : List (List ℕ)) (form : Form) (o : H5wOptions) → created_by a_name form ≡ new_file (options_of a_name o) → all_by names form ≡ files_by names o
-by_form [] form o is = refl
-by_form (name ∷ names) form o is = λ i. (record (is i) { name = name }) ∷ by_form names form o is i
+-- the form of options makes their dataset, under any name
+made_as : (name : List ℕ) (o : H5wOptions) (form : Form) → IsFormOf o form → created_by name form ≡ new_file (options_of name o)
+made_as name o form is = ap (λ (f : CreatedFile). record f { name = name }) is.made
 
-pub new_set : (names : List (List ℕ)) (o : H5wOptions) (options : Options) (form : Form) (s : SeveralState) → options ≡ options_of a_name o → created_by options.name form ≡ new_file options
-    → s.first.items ≡ created_writes (all_by names form) → IsCreatedAll (all_by names form) o.limit o.budget (led s.first.items s.session) → StandsAll (led s.first.items s.session) (created_file (all_by names form))
-    → StandsAll s.session (shown_file (all_by names form)) → all_pending s.session.parts ≡ [] → IsNewSet names o s
-new_set names o options form s is made writes session begins stands idle =
-    let files : all_by names form ≡ files_by names o = by_form names form o (subst (λ (p : Options). created_by p.name form ≡ new_file p) is made) in
+by_forms : (names : List (List ℕ)) (os : List H5wOptions) (forms : List Form) → AllPaired IsFormOf os forms → each_by names forms ≡ files_by names os
+by_forms [] os forms are = refl
+by_forms (name ∷ names) [] [] are = refl
+by_forms (name ∷ names) [] (form ∷ forms) are = absurd are
+by_forms (name ∷ names) (o ∷ os) [] are = absurd are
+by_forms (name ∷ names) (o ∷ os) (form ∷ forms) are =
+    let own = made_as name o form are.0 in
+    let rest = by_forms names os forms are.1 in
+    λ i. own i ∷ rest i
+
+forms_many : (os : List H5wOptions) (forms : List Form) → AllPaired IsFormOf os forms → length forms ≡ length os
+forms_many [] [] are = refl
+forms_many [] (form ∷ forms) are = absurd are
+forms_many (o ∷ os) [] are = absurd are
+forms_many (o ∷ os) (form ∷ forms) are = ap suc (forms_many os forms are.1)
+
+forms_each : (os : List H5wOptions) (forms : List Form) → AllPaired IsFormOf os forms → AllByRecursion IsForm forms
+forms_each [] [] are = tt
+forms_each [] (form ∷ forms) are = absurd are
+forms_each (o ∷ os) [] are = absurd are
+forms_each (o ∷ os) (form ∷ forms) are = (are.0.is, forms_each os forms are.1)
+
+-- a form for each name
+pub forms_fit : (names : List (List ℕ)) (os : List H5wOptions) (old forms : List Form) → AreSetOptions names os → old ≡ [] → AddsForms os old forms → AreForms names forms
+forms_fit names os old forms are none adds =
+    let all : forms ≡ adds.forms = adds.is ∙ ap (λ (fs : List Form). fs ++ adds.forms) none in
+    subst (AreForms names) (sym all) (record { many = forms_many os adds.forms adds.are ∙ are.many; each = forms_each os adds.forms adds.are })
+
+-- one more, and those behind it
+pub adds_form : (o : H5wOptions) (rest os : List H5wOptions) (options : Options) (form : Form) (old mid new : List Form) → os ≡ o ∷ rest → options ≡ options_of a_name o → IsForm form → created_by options.name form ≡ new_file options
+    → mid ≡ old ++ form ∷ [] → AddsForms rest mid new → AddsForms os old new
+adds_form o rest os options form old mid new all is form_is made push x =
+    subst (λ (us : List H5wOptions). AddsForms us old new) (sym all) (record {
+      forms = form ∷ x.forms;
+      are = (record { is = form_is; made = subst (λ (p : Options). created_by p.name form ≡ new_file p) is made }, x.are);
+      is = x.is ∙ ap (λ (fs : List Form). fs ++ x.forms) push ∙ append_assoc old (form ∷ []) x.forms;
+    })
+
+pub forms_added : {A E : Type 0} (o : H5wOptions) (rest os : List H5wOptions) (options : Options) (form : Form) (old mid new : List Form) (r : Result A E) → os ≡ o ∷ rest → options ≡ options_of a_name o → IsForm form
+    → created_by options.name form ≡ new_file options → mid ≡ old ++ form ∷ [] → OnOk r (AddsForms rest mid new) → OnOk r (AddsForms os old new)
+forms_added o rest os options form old mid new (Ok a) all is form_is made push x = adds_form o rest os options form old mid new all is form_is made push x
+forms_added o rest os options form old mid new (Err e) all is form_is made push x = tt
+
+pub forms_none : (os : List H5wOptions) (old : List Form) → os ≡ [] → AddsForms os old old
+forms_none os old none = subst (λ (us : List H5wOptions). AddsForms us old old) (sym none) (record { forms = []; are = tt; is = sym (append-nil old) })
+
+-- the limit has room for a name, and is that of options within their bounds
+pub most_within : (names : List (List ℕ)) (os : List H5wOptions) → AreSetOptions names os → (limit_of os ≤ 2 ^ 40) × ((1024 ≤ budget_of os) × (budget_of os ≤ 2 ^ 30))
+most_within names [] are = absurd (let some = are.counted.some in let many = are.many in omega (arith, some, many))
+most_within names (o ∷ os) are = (are.options.0.limit_high, (are.options.0.budget_low, are.options.0.budget_high))
+
+pub new_set : (names : List (List ℕ)) (os : List H5wOptions) (old forms : List Form) (limit budget : ℕ) (s : SeveralState) → old ≡ [] → AddsForms os old forms → limit ≡ limit_of os → budget ≡ budget_of os
+    → s.first.items ≡ created_writes (each_by names forms) → IsCreatedAll (each_by names forms) limit budget (led s.first.items s.session) → StandsAll (led s.first.items s.session) (created_file (each_by names forms))
+    → StandsAll s.session (shown_file (each_by names forms)) → all_pending s.session.parts ≡ [] → IsNewSet names os s
+new_set names os old forms limit budget s none adds limit_is budget_is writes session begins stands idle =
+    let all : forms ≡ adds.forms = adds.is ∙ ap (λ (fs : List Form). fs ++ adds.forms) none in
+    let files : each_by names forms ≡ files_by names os = ap (each_by names) all ∙ by_forms names os adds.forms adds.are in
     record {
       writes = writes ∙ ap created_writes files;
-      session = subst (λ (fs : List CreatedFile). IsCreatedAll fs o.limit o.budget (led s.first.items s.session)) files session;
+      session =
+          subst (λ (n : ℕ). IsCreatedAll (files_by names os) (limit_of os) n (led s.first.items s.session)) budget_is
+          (subst (λ (n : ℕ). IsCreatedAll (files_by names os) n budget (led s.first.items s.session)) limit_is
+          (subst (λ (fs : List CreatedFile). IsCreatedAll fs limit budget (led s.first.items s.session)) files session));
       begins = subst (λ (fs : List CreatedFile). StandsAll (led s.first.items s.session) (created_file fs)) files begins;
       stands = subst (λ (fs : List CreatedFile). StandsAll s.session (shown_file fs)) files stands;
       idle = idle;
@@ -63,8 +118,8 @@ names_or names None = names
 names_or names (Some others) = others
 
 -- a session is held, or memory is wanting
-pub creates_session : (names : List (List ℕ)) (o : H5wOptions) (s : SeveralState) (answer : H5wTold) (new : Option Held) → IsNewSet names o s → HoldsSet s answer new → CreatesNamed names o answer new
-creates_session names o s answer new is (inl h) = record {
+pub creates_session : (names : List (List ℕ)) (os : List H5wOptions) (s : SeveralState) (answer : H5wTold) (new : Option Held) → IsNewSet names os s → HoldsSet s answer new → CreatesNamed names os answer new
+creates_session names os s answer new is (inl h) = record {
   either = inl (record {
     state = s;
     held = h.1;
@@ -72,35 +127,35 @@ creates_session names o s answer new is (inl h) = record {
     is_new = is;
   });
 }
-creates_session names o s answer new is (inr h) = record { either = inr h }
+creates_session names os s answer new is (inr h) = record { either = inr h }
 
-module _ (lens bytes : List ℕ) (o : H5wOptions) (old : Option Held) where
-  pub creates_memory : (answer : H5wTold) → old ≡ None → answer ≡ no_memory → CreatesSet lens bytes o old answer old
+module _ (lens bytes : List ℕ) (os : List H5wOptions) (old : Option Held) where
+  pub creates_memory : (answer : H5wTold) → old ≡ None → answer ≡ no_memory → CreatesSet lens bytes os old answer old
   creates_memory answer none is = record {
     taken = λ some. absurd (cc);
     bounds = λ e not. (inr is, e);
     created = λ names e named are. record { either = inr (is, e) };
   }
 
-  pub creates_none : (answer : H5wTold) → old ≡ None → names_in lens bytes ≡ None → answer ≡ misuse → CreatesSet lens bytes o old answer old
+  pub creates_none : (answer : H5wTold) → old ≡ None → names_in lens bytes ≡ None → answer ≡ misuse → CreatesSet lens bytes os old answer old
   creates_none answer none absent is = record {
     taken = λ some. absurd (cc);
     bounds = λ e not. (inl is, e);
     created = λ names e named are. absurd (let clash = sym absent ∙ named in cc);
   }
 
-  pub creates_out : (names : List (List ℕ)) (answer : H5wTold) → old ≡ None → names_in lens bytes ≡ Some names → (AreSetOptions names o → ⊥) → answer ≡ misuse → CreatesSet lens bytes o old answer old
+  pub creates_out : (names : List (List ℕ)) (answer : H5wTold) → old ≡ None → names_in lens bytes ≡ Some names → (AreSetOptions names os → ⊥) → answer ≡ misuse → CreatesSet lens bytes os old answer old
   creates_out names answer none named out is = record {
     taken = λ some. absurd (cc);
     bounds = λ e not. (inl is, e);
-    created = λ others e given are. absurd (out (subst (λ (ns : List (List ℕ)). AreSetOptions ns o) (ap (names_or names) (sym given ∙ named)) are));
+    created = λ others e given are. absurd (out (subst (λ (ns : List (List ℕ)). AreSetOptions ns os) (ap (names_or names) (sym given ∙ named)) are));
   }
 
-  pub creates_named : (names : List (List ℕ)) (answer : H5wTold) (new : Option Held) → old ≡ None → names_in lens bytes ≡ Some names → AreSetOptions names o → CreatesNamed names o answer new → CreatesSet lens bytes o old answer new
+  pub creates_named : (names : List (List ℕ)) (answer : H5wTold) (new : Option Held) → old ≡ None → names_in lens bytes ≡ Some names → AreSetOptions names os → CreatesNamed names os answer new → CreatesSet lens bytes os old answer new
   creates_named names answer new none named are creates = record {
     taken = λ some. absurd (cc);
     bounds = λ e not. absurd (not names named are);
-    created = λ others e given bounds. subst (λ (ns : List (List ℕ)). CreatesNamed ns o answer new) (ap (names_or names) (sym named ∙ given)) creates;
+    created = λ others e given bounds. subst (λ (ns : List (List ℕ)). CreatesNamed ns os answer new) (ap (names_or names) (sym named ∙ given)) creates;
   }
 
 -- ---- Opening

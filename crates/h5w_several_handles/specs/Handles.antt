@@ -28,22 +28,22 @@ HoldsSet s answer new = ((answer ≡ told codes.Done 0 (length (pending_of s))) 
 -- ---- Creating
 
 -- a new session is held, whose pieces are told
-pub record HoldsNew (names : List (List ℕ)) (o : H5wOptions) (answer : H5wTold) (new : Option Held) : Type 0 where
+pub record HoldsNew (names : List (List ℕ)) (os : List H5wOptions) (answer : H5wTold) (new : Option Held) : Type 0 where
   pub state : SeveralState
   pub held : new ≡ Some (Several state)
   pub told : answer ≡ told codes.Done 0 (length state.first.items)
-  pub is_new : IsNewSet names o state
+  pub is_new : IsNewSet names os state
 
 -- so it is, or memory is wanting, and nothing is held
-pub record CreatesNamed (names : List (List ℕ)) (o : H5wOptions) (answer : H5wTold) (new : Option Held) : Type 0 where
-  pub either : HoldsNew names o answer new ⊎ ((answer ≡ no_memory) × (new ≡ None))
+pub record CreatesNamed (names : List (List ℕ)) (os : List H5wOptions) (answer : H5wTold) (new : Option Held) : Type 0 where
+  pub either : HoldsNew names os answer new ⊎ ((answer ≡ no_memory) × (new ≡ None))
 
--- A handle that holds something is busy, and one that holds nothing is misused exactly if the names or an option are out of their bounds. Else it
--- holds a new session. Memory may be wanting.
-pub record CreatesSet (lens bytes : List ℕ) (o : H5wOptions) (old : Option Held) (answer : H5wTold) (new : Option Held) : Type 0 where
+-- A handle that holds something is busy, and one that holds nothing is misused exactly if the names or an option are out of their bounds, or
+-- these are not one for each name. Else it holds a new session. Memory may be wanting.
+pub record CreatesSet (lens bytes : List ℕ) (os : List H5wOptions) (old : Option Held) (answer : H5wTold) (new : Option Held) : Type 0 where
   pub taken : is_some old ≡ true → (answer ≡ busy) × (new ≡ old)
-  pub bounds : old ≡ None → ((names : List (List ℕ)) → names_in lens bytes ≡ Some names → AreSetOptions names o → ⊥) → ((answer ≡ misuse) ⊎ (answer ≡ no_memory)) × (new ≡ None)
-  pub created : (names : List (List ℕ)) → old ≡ None → names_in lens bytes ≡ Some names → AreSetOptions names o → CreatesNamed names o answer new
+  pub bounds : old ≡ None → ((names : List (List ℕ)) → names_in lens bytes ≡ Some names → AreSetOptions names os → ⊥) → ((answer ≡ misuse) ⊎ (answer ≡ no_memory)) × (new ≡ None)
+  pub created : (names : List (List ℕ)) → old ≡ None → names_in lens bytes ≡ Some names → AreSetOptions names os → CreatesNamed names os answer new
 
 -- ---- Opening
 

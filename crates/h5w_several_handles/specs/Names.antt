@@ -1,7 +1,9 @@
 -- The names of datasets as C gives them, and within which bounds a file is created and opened by them.
-use Rattle.std.specs.Prelude.{ℕ, ◌*◌, ◌^◌, ◌≤◌, nat_le, if◌then◌else◌, List, [], ◌∷◌, length, map, take, drop, Option, Some, None, option_map}
-use Rattle.std.specs.List.{All}
-use Rattle.h5w_creation.specs.Forms.{a_name}
+use Rattle.std.specs.Prelude.{◌≡◌, ℕ, ◌*◌, ◌^◌, ◌≤◌, nat_le, if◌then◌else◌, List, [], ◌∷◌, ◌++◌, length, take, drop, Option, Some, None, option_map}
+use Rattle.std.specs.List.{All, AllByRecursion}
+use Rattle.h5w_model.specs.Relations.{AllPaired}
+use Rattle.h5w_creation.specs.Forms.{IsForm, a_name, created_by}
+use Rattle.h5w_creation.specs.declared.form.Form.{Form}
 use Rattle.h5w_creation_laws.specs.CreatedFiles.{CreatedFile}
 use Rattle.h5w_form.specs.NewFiles.{new_file}
 use Rattle.h5w_options.specs.Options.{AreOptions}
@@ -20,16 +22,40 @@ cut_names (n ∷ lens) bytes = if nat_le n (length bytes) then option_map (λ (n
 abbrev pub names_in : (lens bytes : List ℕ) → Option (List (List ℕ))
 names_in lens bytes = if nat_le (length lens) 8 then cut_names lens bytes else None
 
--- By which names and options a file is created: 1 to 8 names of 1 to 64 bytes, of which none stands twice, and 1,024 bytes of the limit for each.
-pub record AreSetOptions (names : List (List ℕ)) (o : H5wOptions) : Type 0 where
+-- The limit of a file is that of the first of its datasets' options, and so is the budget.
+abbrev pub limit_of : List H5wOptions → ℕ
+limit_of [] = 0
+limit_of (o ∷ os) = o.limit
+
+abbrev pub budget_of : List H5wOptions → ℕ
+budget_of [] = 0
+budget_of (o ∷ os) = o.budget
+
+-- By which names and options a file is created: 1 to 8 names of 1 to 64 bytes, of which none stands twice, options for each, and 1,024 bytes of the
+-- limit for each.
+pub record AreSetOptions (names : List (List ℕ)) (os : List H5wOptions) : Type 0 where
   pub counted : AreNames names
   pub named : AllNamed names
-  pub options : AreOptions (options_of a_name o)
-  pub room : 1024 * length names ≤ o.limit
+  pub many : length os ≡ length names
+  pub options : AllByRecursion (λ (o : H5wOptions). AreOptions (options_of a_name o)) os
+  pub room : 1024 * length names ≤ limit_of os
 
--- a dataset by these options under each of the names
-abbrev pub files_by : List (List ℕ) → H5wOptions → List CreatedFile
-files_by names o = map (λ (name : List ℕ). new_file (options_of name o)) names
+-- a dataset under each of the names, by the options that stand at its place
+abbrev pub files_by : List (List ℕ) → List H5wOptions → List CreatedFile
+files_by [] os = []
+files_by (name ∷ names) [] = []
+files_by (name ∷ names) (o ∷ os) = new_file (options_of name o) ∷ files_by names os
+
+-- the form of these options, under any name
+pub record IsFormOf (o : H5wOptions) (form : Form) : Type 0 where
+  pub is : IsForm form
+  pub made : created_by a_name form ≡ new_file (options_of a_name o)
+
+-- those of these options are put behind others
+pub record AddsForms (os : List H5wOptions) (old new : List Form) : Type 0 where
+  pub forms : List Form
+  pub are : AllPaired IsFormOf os forms
+  pub is : new ≡ old ++ forms
 
 -- within which bounds a file is opened
 pub record AreSetBounds (names : List (List ℕ)) (limit budget : ℕ) : Type 0 where

@@ -17,7 +17,7 @@ use Rattle.h5w_several_session_laws.specs.Sessions.{Sessions, all_pending}
 use Rattle.h5w_several_session_laws.specs.Standing.{StandsAll}
 use Rattle.h5w_handles.specs.declared.several.SeveralState.{SeveralState}
 use Rattle.h5w_writer_handles.specs.declared.options.H5wOptions.{H5wOptions}
-use Rattle.h5w_several_handles.specs.Names.{files_by}
+use Rattle.h5w_several_handles.specs.Names.{budget_of, files_by, limit_of}
 
 -- ---- Pieces
 
@@ -33,11 +33,11 @@ pending_of s = pending_in s.first.items (all_pending s.session.parts)
 -- ---- Creating
 
 -- A session that creates a file by these names and options: the pieces of the creation are pending, and nothing else.
-pub record IsNewSet (names : List (List ℕ)) (o : H5wOptions) (s : SeveralState) : Type 0 where
-  pub writes : s.first.items ≡ created_writes (files_by names o)
-  pub session : IsCreatedAll (files_by names o) o.limit o.budget (led s.first.items s.session)
-  pub begins : StandsAll (led s.first.items s.session) (created_file (files_by names o))
-  pub stands : StandsAll s.session (shown_file (files_by names o))
+pub record IsNewSet (names : List (List ℕ)) (os : List H5wOptions) (s : SeveralState) : Type 0 where
+  pub writes : s.first.items ≡ created_writes (files_by names os)
+  pub session : IsCreatedAll (files_by names os) (limit_of os) (budget_of os) (led s.first.items s.session)
+  pub begins : StandsAll (led s.first.items s.session) (created_file (files_by names os))
+  pub stands : StandsAll s.session (shown_file (files_by names os))
   pub idle : all_pending s.session.parts ≡ []
 
 -- ---- Opening

@@ -3,7 +3,10 @@ ghost use Rattle.std.specs.Prelude.{◌≡◌, ◌≢◌, ◌≤◌, ℕ, List, 
 ghost use Rattle.std.specs.List.{All, AllByRecursion};
 ghost use Rattle.h5w_several_creation.specs.Forms.{HasRoom};
 ghost use Rattle.h5w_several_creation_laws.specs.SeveralFiles.{AllNamed};
-ghost use Rattle.h5w_several_handles.specs.Names.{AreSetBounds, AreSetOptions};
+ghost use Rattle.h5w_creation.specs.Forms.{a_name};
+ghost use Rattle.h5w_options.specs.Options.{AreOptions};
+ghost use Rattle.h5w_writer_handles.specs.CreatedBy.{options_of};
+ghost use Rattle.h5w_several_handles.specs.Names.{AreSetBounds, AreSetOptions, budget_of, limit_of};
 
 use crate::names::MOST;
 use h5w_model::Bytes;
@@ -67,19 +70,47 @@ fn have_room(names: &[Bytes]) -> bool
     }
 }
 
+/// Whether a file can be created with a dataset of each of these options.
+fn are_within(options: &[H5wOptions]) -> bool
+    ensures yes { IsTrue result → AllByRecursion (λ (o : H5wOptions). AreOptions (options_of a_name o)) options.now }
+    ensures no { AllByRecursion (λ (o : H5wOptions). AreOptions (options_of a_name o)) options.now → IsTrue result }
+{
+    match options.split_first() {
+        None => true,
+        Some((o, rest)) => {
+            if !o.are_within(b"a") {
+                return false;
+            }
+            are_within(rest)
+        }
+    }
+}
+
+/// The limit and the budget of a file: those of the first of its datasets' options.
+pub fn most_of(options: &[H5wOptions]) -> (u64, u64)
+    ensures limit { result.0 ≡ limit_of options.now }
+    ensures budget { result.1 ≡ budget_of options.now }
+{
+    match options.split_first() {
+        None => (0, 0),
+        Some((o, _)) => (o.limit, o.budget),
+    }
+}
+
 /// Whether a file can be created so with datasets of these names.
-pub fn are_set_options(names: &Names, o: &H5wOptions) -> bool
-    ensures yes { IsTrue result → AreSetOptions names.now o.now }
-    ensures no { AreSetOptions names.now o.now → IsTrue result }
+pub fn are_set_options(names: &Names, options: &[H5wOptions]) -> bool
+    ensures yes { IsTrue result → AreSetOptions names.now options.now }
+    ensures no { AreSetOptions names.now options.now → IsTrue result }
 {
     let all = names.as_slice();
-    if all.len() < 1 || MOST < all.len() {
+    if all.len() < 1 || MOST < all.len() || options.len() != all.len() {
         return false;
     }
-    if o.limit < EACH * all.len() as u64 {
+    let (limit, _) = most_of(options);
+    if limit < EACH * all.len() as u64 {
         return false;
     }
-    have_room(all) && are_named(all) && o.are_within(b"a")
+    have_room(all) && are_named(all) && are_within(options)
 }
 
 /// Whether each of these names is short enough to be opened.

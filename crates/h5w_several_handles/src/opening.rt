@@ -1,13 +1,17 @@
 //! A writer of several datasets that a handle holds from now on.
-ghost use Rattle.std.specs.Prelude.{◌≡◌, None, IfOk};
+ghost use Rattle.std.specs.Prelude.{◌≡◌, None, IfOk, OnOk};
+ghost use Rattle.std.specs.List.{AllByRecursion};
+ghost use Rattle.h5w_creation.specs.Forms.{a_name};
+ghost use Rattle.h5w_options.specs.Options.{AreOptions};
+ghost use Rattle.h5w_writer_handles.specs.CreatedBy.{options_of};
 ghost use Rattle.h5w_several_handles.specs.Handles.{CreatesNamed, CreatesSet, HoldsSet, OpensNamed, OpensSet};
-ghost use Rattle.h5w_several_handles.specs.Names.{AreSetBounds, AreSetOptions};
+ghost use Rattle.h5w_several_handles.specs.Names.{AddsForms, AreSetBounds, AreSetOptions};
 ghost use Rattle.h5w_several_handles.specs.Sets.{IsNewSet, IsOpenedSet};
 
-use crate::bounds::{are_set_bounds, are_set_options};
+use crate::bounds::{are_set_bounds, are_set_options, most_of};
 use crate::names::names_of;
 use crate::showing::pending;
-use h5w_form::form_of;
+use h5w_form::{Form, form_of};
 use h5w_handles::{H5wCode, H5wTold, Handle, Held, SeveralState};
 use h5w_model::OutOfMemory;
 use h5w_names::Names;
@@ -29,14 +33,38 @@ fn hold(handle: &mut Handle, alloc: Global, state: SeveralState) -> H5wTold
     }
 }
 
-/// A session that creates a file with datasets of these names.
-fn created(alloc: Global, names: &Names, o: &H5wOptions) -> Result<SeveralState, OutOfMemory>
-    requires { AreSetOptions names.now o.now }
-    ensures { IfOk result (IsNewSet names.now o.now) }
+/// Puts the forms of these options behind others.
+fn add_forms(
+    alloc: Global,
+    options: &[H5wOptions],
+    forms: &mut Vec<Form>,
+) -> Result<(), OutOfMemory>
+    requires { AllByRecursion (λ (o : H5wOptions). AreOptions (options_of a_name o)) options.now }
+    ensures { OnOk result (AddsForms options.now forms.old.items forms.new.items) }
 {
-    let options = o.options(alloc, b"a")?;
-    let form = form_of(&options);
-    let new = h5w_several_creating::create(alloc, names, &form, o.limit, o.budget)?;
+    match options.split_first() {
+        None => Ok(()),
+        Some((o, rest)) => {
+            let one = o.options(alloc, b"a")?;
+            forms.push(form_of(&one))?;
+            add_forms(alloc, rest, forms)
+        }
+    }
+}
+
+/// A session that creates a file with datasets of these names, each by the options at its place.
+fn created(
+    alloc: Global,
+    names: &Names,
+    options: &[H5wOptions],
+) -> Result<SeveralState, OutOfMemory>
+    requires { AreSetOptions names.now options.now }
+    ensures { IfOk result (IsNewSet names.now options.now) }
+{
+    let mut forms = Vec::new(alloc);
+    add_forms(alloc, options, &mut forms)?;
+    let (limit, budget) = most_of(options);
+    let new = h5w_several_creating::create(alloc, names, &forms, limit, budget)?;
     Ok(SeveralState {
         first: new.writes,
         session: new.session,
@@ -44,28 +72,33 @@ fn created(alloc: Global, names: &Names, o: &H5wOptions) -> Result<SeveralState,
 }
 
 /// Holds the session that creates a file with datasets of these names.
-fn create_named(handle: &mut Handle, alloc: Global, names: &Names, o: &H5wOptions) -> H5wTold
+fn create_named(
+    handle: &mut Handle,
+    alloc: Global,
+    names: &Names,
+    options: &[H5wOptions],
+) -> H5wTold
     requires none { handle.old.at.held ≡ None }
-    requires options { AreSetOptions names.now o.now }
-    ensures { CreatesNamed names.now o.now result handle.new.at.held }
+    requires options { AreSetOptions names.now options.now }
+    ensures { CreatesNamed names.now options.now result handle.new.at.held }
 {
-    match created(alloc, names, o) {
+    match created(alloc, names, options) {
         Ok(state) => hold(handle, alloc, state),
         Err(OutOfMemory) => H5wCode::Memory.alone(),
     }
 }
 
-/// Holds a writer from now on, which creates a file with a dataset of each of these names: the bytes have them one behind another, and `lens` how
-/// long each is. The pieces of the creation are pending.
+/// Holds a writer from now on, which creates a file with a dataset of each of these names, by the options at its place: the bytes have the names one
+/// behind another, and `lens` how long each is. The limit and the budget of the first count. The pieces of the creation are pending.
 #[tactic(auto, using(crate::proofs::HoldLemmas::creates_memory, crate::proofs::HoldLemmas::creates_none, crate::proofs::HoldLemmas::creates_out, crate::proofs::HoldLemmas::creates_named))]
 pub fn create(
     handle: &mut Handle,
     alloc: Global,
     lens: &[u64],
     bytes: &[u8],
-    o: &H5wOptions,
+    options: &[H5wOptions],
 ) -> H5wTold
-    ensures { CreatesSet lens.now bytes.now o.now handle.old.at.held result handle.new.at.held }
+    ensures { CreatesSet lens.now bytes.now options.now handle.old.at.held result handle.new.at.held }
 {
     if !handle.is_none() {
         return H5wCode::Busy.alone();
@@ -76,10 +109,10 @@ pub fn create(
     let Some(names) = given else {
         return H5wCode::Misuse.alone();
     };
-    if !are_set_options(&names, o) {
+    if !are_set_options(&names, options) {
         return H5wCode::Misuse.alone();
     }
-    create_named(handle, alloc, &names, o)
+    create_named(handle, alloc, &names, options)
 }
 
 /// The session over the file of these bytes, which is opened, or taken over from a session that left it open.

@@ -16,16 +16,18 @@ dataset_header-requires-clause-short c =
     let name = c.args.name.now in
     let r = c.requires in
     let f = created_by name m.form in
-    let small : end_behind c.args.place f < 2 ^ 62 = omega (arith, r.ends, r.mold.small) in
+    let small : end_behind c.args.place f < 2 ^ 62 = omega (arith, r.ends, r.shared.small) in
     subst (λ (d : Described). length (spelled_header d) ≤ 512) (sym (moved m c.args.place name r.mold)) (short_header c.args.place f (creatable name m.form r.mold.form r.name.0 r.name.1) small)
 
 pub over-requires-clause-session : goal.over-requires-clause-session
 over-requires-clause-session c =
     let m = c.args.mold.now in
+    let t = c.args.shared.now in
     let name = c.args.name.now in
     let place = c.args.place in
     let r = c.requires in
+    let f = created_by name m.form in
     let v = view_of c.in_ok-index.index in
     let d : Described = record (dataset_of m.grid) { layout = record ((dataset_of m.grid).layout) { address = place + m.header_len } } in
-    subst IsSession (sym (over_is m place name d c.in_ok-dataset_header.field-0 v (moved m place name r.mold) c.in_ok-dataset_header.ensures))
-    (made_is m place name v r.mold r.name r.begun r.ends c.in_ok-index.ensures.sound (moved_index m place name v r.mold c.in_ok-index.ensures.new))
+    subst IsSession (sym (over_is t place f d c.in_ok-dataset_header.field-0 v (moved m place name r.mold) c.in_ok-dataset_header.ensures))
+    (made_is t place f v r.shared (creatable name m.form r.mold.form r.name.0 r.name.1) r.begun r.ends c.in_ok-index.ensures.sound (moved_index m place name v r.mold c.in_ok-index.ensures.new))
