@@ -20,12 +20,11 @@ use Rattle.h5w_steps.proofs.PlanLaws.{end_long}
 use Rattle.h5w_steps.proofs.StepRepresents.{ends_represents}
 use Rattle.h5w_steps.proofs.StepStays.{step_stays}
 use Rattle.h5w_opening.specs.Openings.{is_open}
-use Rattle.h5w_session.specs.Past.{HasOpened}
 use Rattle.h5w_session.specs.Sessions.{Session}
 use Rattle.h5w_session.specs.Stands.{Stands}
 use Rattle.h5w_session.proofs.LawLemmas.{standing_laws}
 use Rattle.h5w_writable_laws.proofs.FindsLemmas.{writable_found}
-use Rattle.h5w_reopening.specs.Reopens.{ClearsFlags, IsCleared, IsWritableFile, OpenedIsWritable, Reopens, StopReopens, by_write, was_clear}
+use Rattle.h5w_reopening.specs.Reopens.{ClearsFlags, IsCleared, OpenedIsWritable, Reopens, StopReopens, by_write, was_clear}
 use Rattle.h5w_reopening.proofs.SinceLemmas.{IsAt, IsWritten, file_at, onward, written_at}
 use Rattle.h5w_reopening.proofs.UnrefusedLemmas.{dataset_taken, never_refused, same_answer}
 
@@ -93,15 +92,9 @@ module _ (img name : List ℕ) (m : Moment) (file : Represents img name m) (w : 
 
 -- ---- After any stop
 
-module _ (s : Session) (log : Log) (p : ℕ) (st : Stands s log) (at : IsPosition log p) (given : HasOpened s log → IsWritableFile log.start s.name) (short : length log.start < 2 ^ 64) where
+module _ (s : Session) (log : Log) (p : ℕ) (st : Stands s log) (at : IsPosition log p) (here : IsAt s log p) (written : IsWritten (image_at log p) here.moment) (short : length log.start < 2 ^ 64) where
   abbrev img : List ℕ
   img = image_at log p
-
-  here : IsAt s log p
-  here = file_at s log p st at
-
-  written : IsWritten img here.moment
-  written = written_at s log p st at here given
 
   some : 0 < here.moment.dataset.shape.cols
   some =
@@ -129,7 +122,9 @@ module _ (s : Session) (log : Log) (p : ℕ) (st : Stands s log) (at : IsPositio
       (cleared_written img s.name m here.file w c written) refl c.closed (omega (arith, long, f)) some here.rows here.columns here.values)
 
 pub stop_reopens : StopReopens
-stop_reopens s log p new st at given short c = reopens s log p st at given short new c
+stop_reopens s log p new st at given short c =
+    let here = file_at s log p st at in
+    reopens s log p st at here (written_at s log p st at here given) short new c
 
 pub opened_is_writable : OpenedIsWritable
 opened_is_writable bytes name limit budget s o = record { found = o.found; is = o.is; unrefused = dataset_taken o.found o.index o.unrefused }

@@ -27,6 +27,7 @@ use Rattle.h5w_session_open.specs.declared.index.NoIndex.{NoIndex}
 use Rattle.h5w_session_open.specs.declared.index.NoIndex.TheVariants.{Unnamed, Empty, WrongTotals, Unordered}
 use Rattle.h5w_session_open.specs.OpenAnswers.{IsIndexOf, IsNotOpened, damaged, refused, unfound}
 use Rattle.h5w_session_open.specs.OpenRanges.{ranges_refused, refused_index, refused_open}
+use Rattle.h5w_session_open.proofs.OverFile.{has_parts}
 use Rattle.h5w_session_open.proofs.LeftLemmas.{never_unordered, never_wrong, no_bad, no_range}
 use Rattle.h5w_writable_laws.specs.Writable.{CanBeWritten}
 
@@ -135,16 +136,16 @@ module _ (img name : List ℕ) (o : Opened) (m : Moment) (is : eval img (looked_
   no_index p (Ok v) e at x h = absurd cc
   no_index p (Err Unnamed) e at x h = absurd cc
   no_index p (Err Empty) e at x h = absurd cc
-  no_index p (Err WrongTotals) e at x h = never_wrong img name p m at file short x
-  no_index p (Err Unordered) e at x h = never_unordered img name p m at file short x
+  no_index p (Err WrongTotals) e at x h = never_wrong img name p m (has_parts img name (length img) p at) file short x
+  no_index p (Err Unordered) e at x h = never_unordered img name p m (has_parts img name (length img) p at) file short x
 
   pub never_refused : (e : OpenError) → IsNotOpened img (length img) name e → ⊥
   never_refused e (unfound f g) = let clash : ◌≡◌ {A = Result Opened OpenError} (Ok o) (Err f) = sym is ∙ g in absurd cc
-  never_refused e (damaged p at f there bad) = no_bad img name p m there file short at f bad
+  never_refused e (damaged p at f there bad) = no_bad img name p m (has_parts img name (length img) p there) file short at f bad
   never_refused e (refused p a f at x h) =
       let one : p ≡ o = same_answer (eval img (looked_for (length img) name)) p o at is in
       let none : refused_dataset p ≡ None = ap refused_dataset one ∙ unrefused in
-      let ranges : ranges_refused p a ≡ None = no_range img name p m at file short a x in
+      let ranges : ranges_refused p a ≡ None = no_range img name p m (has_parts img name (length img) p at) file short a x in
       let index : refused_index p.header.dataset a ≡ Some f =
       sym (ap (λ r. option_or r (refused_index p.header.dataset a)) none) ∙ sym (ap (λ r. option_or r (option_or (refused_dataset p) (refused_index p.header.dataset a))) ranges) ∙ h in
       no_index p a f at x index

@@ -52,7 +52,6 @@ use Rattle.h5w_tree_open_laws.proofs.NeededEndLemmas.{needed_ends}
 use Rattle.h5w_ea_index.specs.Opened.{past}
 use Rattle.h5w_ea_index.specs.Ranges.{block_ranges, each_below, range_from, range_of_part, ranges_of_data, ranges_of_super_block}
 use Rattle.h5w_ea_index.proofs.StandingLemmas.{opened_finds}
-use Rattle.h5w_opening.proofs.FoundParts.{parts}
 use Rattle.h5w_opening.specs.Openings.{Opened, chunk_0_len, closed_super, dataset_found, in_chunk_0, is_open, known, looked_for, place_found, refused_dataset, super_found}
 use Rattle.h5w_opening.specs.declared.error.OpenError.{OpenError}
 use Rattle.h5w_opening.specs.declared.error.OpenError.TheVariants.{Read, Version, Flags, Cut}
@@ -63,7 +62,7 @@ use Rattle.h5w_session_open.specs.OpenLaws.{IsLeft, OpenLaws, dataset, older, op
 use Rattle.h5w_session_open.specs.OpenRanges.{blocks_in, chunk_0_range, chunks_behind, chunks_from, cut_at, first_key, first_open_line, first_past, header_alone, header_len, open_blocks, open_chunks, ranges_refused, refused_index}
 use Rattle.h5w_session.specs.Sessions.{cleared}
 use Rattle.h5w_session_open.proofs.OpenRangeLemmas.{AllBy, both_none, by_both, by_later, by_take, chunks_by, past_none, range_by}
-use Rattle.h5w_session_open.proofs.OverFile.{begins, checked, cut_here, dataset_same, end_same, has_parts, header_same, nodes_end, place_same, same_answer, visited}
+use Rattle.h5w_session_open.proofs.OverFile.{HasParts, begins, checked, cut_here, dataset_same, end_same, has_parts, header_same, nodes_end, place_same, same_answer, visited}
 use Rattle.h5w_session_open.proofs.OpenLineLemmas.{open_few}
 use Rattle.h5w_session_open.proofs.UndamagedLemmas.{undamaged, visit_of}
 use Rattle.h5w_session_open.proofs.UndamagedTreeLemmas.{all_by, answered, chunks_end, head_ends}
@@ -182,31 +181,31 @@ some_or_none : {A : Type 0} (x : Option A) → IsSome x ⊎ (x ≡ None)
 some_or_none (Some a) = inl refl
 some_or_none None = inr refl
 
-module _ (img name : List ℕ) (o : Opened) (m : Moment) (is : eval img (looked_for (length img) name) ≡ Ok o) (file : Represents img name m) (short : length img < 2 ^ 64) where
+module _ (img name : List ℕ) (o : Opened) (m : Moment) (found : HasParts img name o) (file : Represents img name m) (short : length img < 2 ^ 64) where
   abbrev end : ℕ
   end = o.root.end
 
   same_end : m.super.end ≡ end
-  same_end = end_same img name o m (has_parts img name (length img) o is) file
+  same_end = end_same img name o m found file
 
   end_small : end < 2 ^ 64
-  end_small = let h = (parts img (length img) name o is).inside in omega arith
+  end_small = let inside = (super_parts (length img) (range img 0 48) m.super file.super).inside in omega (arith, inside, same_end)
 
   seen : HasAnswer (eval img (index_visit end o.header.dataset))
-  seen = visited img name o m (has_parts img name (length img) o is) file
+  seen = visited img name o m found file
 
   -- chunk 0
   front : o.place + o.header.len ≤ end
   front =
-      let c = checked img name o m (has_parts img name (length img) o is) file in
+      let c = checked img name o m found file in
       let r = header_read img m.place c.header c.read in
       let us : m.header ≡ block_at m.place r.prefix.total ∷ used_of r.blocks = c.ranges ∙ ap used_of r.ranges in
       let long : m.place + r.prefix.total ≤ m.super.end = c.ends (block_at m.place r.prefix.total) (subst (λ (ws : List Used). Among (block_at m.place r.prefix.total) ws) (sym us) (inl refl)) in
       let len : o.header.len ≡ r.prefix.total =
-      (has_parts img name (length img) o is).len
-      ∙ ap (λ (h : HeaderFields). chunk_0_len h.ranges) (sym (header_same img name o m (has_parts img name (length img) o is) file))
+      found.len
+      ∙ ap (λ (h : HeaderFields). chunk_0_len h.ranges) (sym (header_same img name o m found file))
       ∙ ap chunk_0_len r.ranges in
-      omega (arith, long, len, same_end, place_same img name o m (has_parts img name (length img) o is) file)
+      omega (arith, long, len, same_end, place_same img name o m found file)
 
   -- the header of an index to which no rows are appended, or the superblock
   super_ends : 48 ≤ end
@@ -223,13 +222,13 @@ module _ (img name : List ℕ) (o : Opened) (m : Moment) (is : eval img (looked_
   module _ (v : Store) (x : IsArrayOf img o.header.dataset v) where
     low : first_open_line o.header.dataset < 131060
     low =
-        let c = checked img name o m (has_parts img name (length img) o is) file in
+        let c = checked img name o m found file in
         let few : needed m.dataset ≤ limit_of format_limits m.dataset.layout.index = ltb-false (limit_of format_limits m.dataset.layout.index) (needed m.dataset) c.within in
-        let here = subst (λ (d : Described). needed d ≤ limit_of format_limits d.layout.index) (dataset_same img name o m (has_parts img name (length img) o is) file) few in
-        open_few o.header.dataset (cut_here img name o m (has_parts img name (length img) o is) file).chunked.rows here x.kind
+        let here = subst (λ (d : Described). needed d ≤ limit_of format_limits d.layout.index) (dataset_same img name o m found file) few in
+        open_few o.header.dataset (cut_here img name o m found file).chunked.rows here x.kind
 
     rests : Rests img m (λ key. map_of v key.i) (record { end = end; limit = 1024; free = []; retired = []; spare = 0 }) (an_array v)
-    rests = (begins img name o m (has_parts img name (length img) o is) file (an_array v) x low 1024 1024).rests
+    rests = (begins img name o m found file (an_array v) x low 1024 1024).rests
 
     standing : Standing v (record { end = end; limit = 1024; free = []; retired = []; spare = 0 })
     standing = rests.stays
@@ -267,7 +266,7 @@ module _ (img name : List ℕ) (o : Opened) (m : Moment) (is : eval img (looked_
 
     chunk_ends : (i : ℕ) → first_open_line o.header.dataset ≤ i → i < first_open_line o.header.dataset + (131060 - first_open_line o.header.dataset) → map_of v i ≢ undefined → map_of v i + chunk_bytes o.header.dataset ≤ end
     chunk_ends i from below named =
-        let same_d = dataset_same img name o m (has_parts img name (length img) o is) file in
+        let same_d = dataset_same img name o m found file in
         let key : Key = record { i = i; j = 0 } in
         let finds = opened_finds img (first_open_line o.header.dataset) o.header.dataset v x.kind (sym x.at) low x.array x.clean x.opened in
         let a = file.index.answered key (λ kind. let t = low in omega arith) in
@@ -291,12 +290,12 @@ module _ (img name : List ℕ) (o : Opened) (m : Moment) (is : eval img (looked_
     tree_blocks =
         let first : Key = first_key o.header.dataset in
         let head = head_ends img end o.header.dataset Tree seen x.kind x.named in
-        (super_ends, (omega (arith, head, x.at), all_by end (ranges_from first v) (needed_ends end first v x.tree.kept (nodes_end img name o m (has_parts img name (length img) o is) file place v x))))
+        (super_ends, (omega (arith, head, x.at), all_by end (ranges_from first v) (needed_ends end first v x.tree.kept (nodes_end img name o m found file place v x))))
 
     tree_chunks : AllBy end (chunks_behind bytes (first_open_line o.header.dataset) (records v))
     tree_chunks =
-        let rests : Rests img m (λ key. address_of v key) (record { end = end; limit = 1024; free = []; retired = []; spare = 0 }) (a_tree place v) = (begins img name o m (has_parts img name (length img) o is) file (a_tree place v) x tt 1024 1024).rests in
-        let same : AreSame (behind_of bytes v) m.behind = subst (λ n. AreSame (behind_of n v) m.behind) (ap chunk_bytes (dataset_same img name o m (has_parts img name (length img) o is) file)) rests.behind in
+        let rests : Rests img m (λ key. address_of v key) (record { end = end; limit = 1024; free = []; retired = []; spare = 0 }) (a_tree place v) = (begins img name o m found file (a_tree place v) x tt 1024 1024).rests in
+        let same : AreSame (behind_of bytes v) m.behind = subst (λ n. AreSame (behind_of n v) m.behind) (ap chunk_bytes (dataset_same img name o m found file)) rests.behind in
         chunks_end end bytes (first_open_line o.header.dataset) v m.behind x.tree.kept same
         (ends_right end m.fixed m.behind (subst (λ n. AllEndBy n (m.fixed ++ m.behind)) same_end file.index.ends))
 
@@ -319,7 +318,7 @@ module _ (img name : List ℕ) (o : Opened) (m : Moment) (is : eval img (looked_
   pub no_bad : (at : ℕ) (f : BlockFault) → IsBadBlock img o.header.dataset at f → ⊥
   no_bad at f (array kind named bad) = undamaged img end (first_open_line o.header.dataset) at o.header.dataset f seen kind named bad
   no_bad at f (tree kind named bad) =
-      let index : IsIndex img m.super.end o.header.dataset m.fixed m.behind = subst (λ (d : Described). IsIndex img m.super.end d m.fixed m.behind) (dataset_same img name o m (has_parts img name (length img) o is) file) file.index in
+      let index : IsIndex img m.super.end o.header.dataset m.fixed m.behind = subst (λ (d : Described). IsIndex img m.super.end d m.fixed m.behind) (dataset_same img name o m found file) file.index in
       answered img m.super.end at o.header.dataset m.fixed m.behind f index kind named bad
 
   -- each tree is kept
@@ -362,10 +361,10 @@ left img name rows columns values sm e short valid reads why =
 
     go : (m : Moment) → Represents img name m → (r : OpenError) → IsNotOpened img (length img) name r → IsLeft img (length img) name r
     go m file r (unfound g is) = unfound_by m file g is (finding img name m file)
-    go m file r (damaged o at f is bad) = absurd (no_bad img name o m is file short at f bad)
+    go m file r (damaged o at f is bad) = absurd (no_bad img name o m (has_parts img name (length img) o is) file short at f bad)
     go m file r (refused o a g is x h) =
-        left_by img name o g a (refused_dataset o) is x refl (ap (λ r. option_or r (option_or (refused_dataset o) (refused_index o.header.dataset a))) (sym (no_range img name o m is file short a x)) ∙ h)
-        (never_wrong img name o m is file short) (never_unordered img name o m is file short)
+        left_by img name o g a (refused_dataset o) is x refl (ap (λ r. option_or r (option_or (refused_dataset o) (refused_index o.header.dataset a))) (sym (no_range img name o m (has_parts img name (length img) o is) file short a x)) ∙ h)
+        (never_wrong img name o m (has_parts img name (length img) o is) file short) (never_unordered img name o m (has_parts img name (length img) o is) file short)
 
 closed_flags : (flags : ℕ) → is_open flags ≡ false → cleared (writing_flags flags) ≡ flags
 closed_flags flags h =

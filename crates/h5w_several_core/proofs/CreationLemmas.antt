@@ -29,12 +29,12 @@ use Rattle.h5w_session.specs.Sessions.{AllEndBy, Session}
 use Rattle.h5w_session.proofs.CreatingLemmas.{new_made, new_roomy, writes_end}
 use Rattle.h5w_session.proofs.PastLemmas.{ends_later}
 use Rattle.h5w_session_laws.proofs.PieceLemmas.{some_is}
-use Rattle.h5w_several_creation.specs.Forms.{AreNames, all_by}
+use Rattle.h5w_several_creation.specs.Forms.{AreNames, all_by, each_by}
+use Rattle.h5w_several_creation.proofs.SetLemmas.{are_creatable, same_forms}
 use Rattle.h5w_several_creation_laws.specs.SeveralFiles.{AllNamed, AreCreatable, block_behind, created_writes, end_behind, end_from, end_of, first_place, index_behind, super_of}
 use Rattle.h5w_several_creation_laws.proofs.PlaceLemmas.{end_above, end_small}
 use Rattle.h5w_several_creation_laws.proofs.StandLaws.{several_sizes}
 use Rattle.h5w_several_creating.specs.Created.{AreIndexes, IsShownAll, begun_of, created_part, created_parts, shown_all, shown_file, showing_all}
-use Rattle.h5w_several_creating.proofs.CreateLemmas.{are_creatable}
 use Rattle.h5w_several_creating.proofs.StandLemmas.{many_begun, many_parts, none_pending}
 use Rattle.h5w_several_laws.proofs.SeenLemmas.{seen_laws}
 use Rattle.h5w_several_session.specs.Refusals.{HasRoomForAll}
@@ -378,16 +378,16 @@ files_are (name ∷ names) o form is =
     let rest = files_are names o form is in
     λ i. own i ∷ rest i
 
-module _ (names : List (List ℕ)) (o : Options) (form : Form) (S : Sessions) (ws : List Write) (form_is : IsForm form) (file_is : created_by o.name form ≡ new_file o) (are : AreNames names) (named : AllNamed names)
-    (writes : ws ≡ created_writes (all_by names form)) (shown : IsShownAll (all_by names form) o.limit o.budget S) (stands : StandsAll S (shown_file (all_by names form))) where
+module _ (names : List (List ℕ)) (o : Options) (form : Form) (forms : List Form) (S : Sessions) (ws : List Write) (form_is : IsForm form) (file_is : created_by o.name form ≡ new_file o) (each_is : forms ≡ replicate (length names) form) (are : AreNames names)
+    (named : AllNamed names) (writes : ws ≡ created_writes (each_by names forms)) (shown : IsShownAll (each_by names forms) o.limit o.budget S) (stands : StandsAll S (shown_file (each_by names forms))) where
   abbrev fs : List CreatedFile
   fs = new_files names o
 
-  same : all_by names form ≡ fs
-  same = files_are names o form file_is
+  same : each_by names forms ≡ fs
+  same = ap (each_by names) each_is ∙ files_are names o form file_is
 
   all_creatable : AreCreatable fs
-  all_creatable = subst AreCreatable same (are_creatable names form form_is are named)
+  all_creatable = subst AreCreatable (files_are names o form file_is) (are_creatable names (replicate (length names) form) (same_forms names form form_is) are named)
 
   is_shown : IsShownAll fs o.limit o.budget S
   is_shown = subst (λ (gs : List CreatedFile). IsShownAll gs o.limit o.budget S) same shown

@@ -135,7 +135,8 @@ fn create(
 {
     let mut image = SteadyImage::new(alloc)?;
     let form = form_of(options);
-    let new = creating::create(alloc, names, &form, options.limit, options.budget)?;
+    let forms = vec![in alloc; form; names.len()]?;
+    let new = creating::create(alloc, names, &forms, options.limit, options.budget)?;
     image.make_room(new.writes.len() as u64 + 1, new.session.end())?;
     put_all(&new.writes, &mut image);
     Ok((new.session, image))

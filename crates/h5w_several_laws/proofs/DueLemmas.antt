@@ -14,10 +14,10 @@ use Rattle.h5w_steps.proofs.PlanLaws.{plan_from, plan_values}
 use Rattle.h5w_steps.proofs.SessionLaws.{both_same, lt-leb-false, some_piece}
 use Rattle.h5w_several_laws.specs.Dues.{PieceDue, PlanDue, RunsTo, Waits}
 
-heads : (a b : Write) (xs ys : List Write) → a ∷ xs ≡ b ∷ ys → a ≡ b
+pub heads : (a b : Write) (xs ys : List Write) → a ∷ xs ≡ b ∷ ys → a ≡ b
 heads a b xs ys h = cc
 
-tails : (a b : Write) (xs ys : List Write) → a ∷ xs ≡ b ∷ ys → xs ≡ ys
+pub tails : (a b : Write) (xs ys : List Write) → a ∷ xs ≡ b ∷ ys → xs ≡ ys
 tails a b xs ys h = cc
 
 by_test : (a b : Bool) (x y z : List ℤ) → a ≡ b → (b ≡ true → x ≡ y) → (if a then x else z) ≡ (if b then y else z)

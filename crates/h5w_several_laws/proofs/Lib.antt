@@ -5,6 +5,7 @@ pub mod SeenLemmas
 pub mod DueLemmas
 pub mod OtherLemmas
 pub mod TurnLemmas
+pub mod BetweenLemmas
 pub mod TogetherLemmas
 pub mod FoldLemmas
 pub mod RunLemmas

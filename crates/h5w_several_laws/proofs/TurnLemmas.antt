@@ -214,7 +214,7 @@ module _ (img : List ℕ) (e : Entry) (es : List Entry) (s : Space) (one : IsOne
       go (inl c) = k.holding.live u c
       go (inr c) = (held_of u c).live
 
-  told_knows : Knows img e.name (told m es) e.address s
+  pub told_knows : Knows img e.name (told m es) e.address s
   told_knows = record {
     file = told_file;
     index = k.index;
@@ -236,6 +236,10 @@ module _ (img : List ℕ) (e : Entry) (es : List Entry) (s : Space) (one : IsOne
   pub told_holding : Holding (told m es) s (k.held ++ hs)
   unfolding told_knows
   told_holding = told_knows.holding
+
+  pub told_helds : told_knows.held ≡ k.held ++ hs
+  unfolding told_knows
+  told_helds = refl
 
   -- told of what others have, not of what is held of them
   told_own : Knows img e.name (told m es) e.address s
@@ -260,7 +264,7 @@ module _ (img : List ℕ) (e : Entry) (es : List Entry) (s : Space) (one : IsOne
     unfolding told_own
     missed_own u a block = missed u (among_left u k.held hs a) block
 
-    missed_all : HeldMissed told_knows.held f.writes
+    pub missed_all : HeldMissed told_knows.held f.writes
     unfolding told_knows
     missed_all u a block = missed u a block
 
@@ -299,7 +303,7 @@ module _ (img : List ℕ) (e : Entry) (es : List Entry) (s : Space) (one : IsOne
 
     -- ---- The others
 
-    is_beside : (o : Entry) → IsOne img s m.super m.root o → AllAmong (own_of o.moment) (owns es) → IsBeside o.moment (told m es)
+    pub is_beside : (o : Entry) → IsOne img s m.super m.root o → AllAmong (own_of o.moment) (owns es) → IsBeside o.moment (told m es)
     is_beside o one inside = record {
       super = one.super_is;
       root = λ u a block. among_left u m.root wholes (subst (λ (us : List Used). Among u us) one.root_is a);

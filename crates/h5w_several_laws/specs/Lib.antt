@@ -6,3 +6,4 @@ pub mod Others
 pub mod Turns
 pub mod Together
 pub mod Takes
+pub mod Between

@@ -14,4 +14,4 @@ pub use beside::{
 };
 pub use logs::{piece_due, plan_due, seen_laws, settled_goes, settled_laws, takes_over};
 pub use together::{all_found, flush_stays_valid};
-pub use turns::{turn_known, turn_runs, turns_follow};
+pub use turns::{own_between, turn_between, turn_known, turn_runs, turns_follow};

@@ -21,6 +21,7 @@ use Rattle.h5w_visits.proofs.HeaderLaws.{root_places}
 use Rattle.h5w_visits.proofs.RangeLemmas.{among_left, among_right}
 use Rattle.h5w_space.specs.Space.{Space}
 use Rattle.h5w_steps.specs.Logs.{image_now}
+use Rattle.h5w_steps.specs.Plans.{Plan}
 use Rattle.h5w_steps.specs.Moments.{Moment, Represents, all_used}
 use Rattle.h5w_steps.specs.Steps.{OffAll}
 use Rattle.h5w_steps.proofs.FoundLemmas.{opens}
@@ -48,6 +49,7 @@ use Rattle.h5w_session_open.proofs.OpenLineLemmas.{open_few}
 use Rattle.h5w_session_open.proofs.OpenRangeLemmas.{or_none}
 use Rattle.h5w_session_open.proofs.OverFile.{HasParts, IsFirst, checked, cut_here, dataset_same, has_parts, is_bare, is_begun, is_over, swmr}
 use Rattle.h5w_session_open.proofs.SessionOver.{in_chunk, near_of, some_columns, unrefused_parts}
+use Rattle.h5w_several_session_laws.proofs.RunLemmas.{runs_of}
 use Rattle.h5w_several_open.specs.Answers.{HasBegunWith}
 use Rattle.h5w_several_open.specs.Begins.{BeginsPart, EachBegins, OpensAll, ReadsIt, a_part, no_part}
 use Rattle.h5w_several_open.specs.Datasets.{IsEntry}
@@ -168,10 +170,15 @@ module _ (img name : List ℕ) (b : Begun) (s : Session) (size limit budget : �
         record {
           entry = subst (λ (x : Session). IsEntry img x.places name e) (sym opened.session) entry;
           prefixed = (part_laws.stands u [] log refl untold.running).prefixed;
+          run = runs_of u [] log n a m.behind u.places untold;
+          plan = subst (λ (x : Super). Plan img n m.behind (super_piece x ∷ []) (moved_to x n) m.behind) (sym root_is) (known_plan untold.after untold.held_is super.0.plan);
           times = told.0;
           runs = subst (λ (x : Session). RunsAs (record x { pending = [] }) [] (told_log told.0 (super_piece x.root ∷ []) log) (then_as x.root e).moment a m.behind x.places) (sym opened.session) runs;
         },
       )
+    where
+      known_plan : {k o : Moment} {us vs : List Used} → k ≡ o → us ≡ vs → Plan img k us (super_piece root ∷ []) (moved_to root k) us → Plan img o vs (super_piece root ∷ []) (moved_to root o) vs
+      known_plan {o = o} {us = us} e h p = subst (λ (x : List Used). Plan img o x (super_piece root ∷ []) (moved_to root o) x) h (subst (λ (x : Moment). Plan img x us (super_piece root ∷ []) (moved_to root x) us) e p)
 
   pub part_begins : (e : Entry) × BeginsPart img name b s e
   part_begins =

@@ -13,7 +13,11 @@ use Rattle.h5w_model.specs.declared.root.Super.{Super}
 use Rattle.h5w_model.proofs.SuperLemmas.{length-super_bytes}
 use Rattle.h5w_space.specs.Space.{Space}
 use Rattle.h5w_several_laws.specs.Together.{IsAllValid, names_of}
-use Rattle.h5w_several_laws.specs.Turns.{AreKnown, Entry, all_then, then_as}
+use Rattle.h5w_steps.specs.Logs.{Goes}
+use Rattle.h5w_steps.proofs.SessionLaws.{rests}
+use Rattle.h5w_steps.specs.Plans.{Plan}
+use Rattle.h5w_several_laws.specs.Dues.{RunsTo}
+use Rattle.h5w_several_laws.specs.Turns.{AreKnown, AreOff, Entry, IsOff, all_then, then_as}
 use Rattle.h5w_opening.proofs.FoundParts.{parts}
 use Rattle.h5w_session.specs.Loads.{end_in, first_end_of}
 use Rattle.h5w_session.specs.Openings.{opened_log}
@@ -24,6 +28,8 @@ use Rattle.h5w_session_open.specs.OpenAnswers.{IsOpenedOver}
 use Rattle.h5w_several_session_laws.specs.Began.{IsAmple, began_end, end_among}
 use Rattle.h5w_several_session_laws.specs.Seen.{IsSeen}
 use Rattle.h5w_several_session_laws.specs.Sessions.{all_pending}
+use Rattle.h5w_several_session_laws.proofs.RunLemmas.{planned_run}
+use Rattle.h5w_several_session_laws.specs.Courses.{AreThrough, IsAt, stands_of}
 use Rattle.h5w_several_session_laws.specs.Standing.{AreStandingParts, IsDone, IsStandingPart, most_in}
 use Rattle.h5w_several_session_laws.proofs.FlushAllLemmas.{stands_all}
 use Rattle.h5w_several_session_laws.specs.Valid.{AreValidFrom}
@@ -67,12 +73,17 @@ module _ (img : List ℕ) (limit budget : ℕ) (root : Super) (ranges : List Use
       subst (λ (x : Super). RunsAs (record s { root = x; pending = [] }) [] (told_log p.times (super_piece x ∷ []) (opened_log img b.columns b.values)) (then_as x e).moment e.address e.held s.places) w.root_is p.runs in
       let runs : RunsAs (record s { root = root; places = t; pending = [] }) [] own (then_as root e).moment e.address e.held t =
       subst (λ (x : Space). RunsAs (record s { root = root; places = x; pending = [] }) [] own (then_as root e).moment e.address e.held x) w.places by_root in
+      let own_plan : Plan img e.moment e.held (super_piece root ∷ []) (then_as root e).moment e.held = subst (λ (x : Super). Plan img e.moment e.held (super_piece x ∷ []) (then_as x e).moment e.held) w.root_is p.plan in
+      let led : RunsTo name (log_of d b log) 0 left (then_as root e).moment e.held =
+      subst (λ (ws : List Write). RunsTo name (log_of d b log) 0 ws (then_as root e).moment e.held) (sym left_is)
+      (planned_run name (log_of d b log) e.moment (then_as root e).moment e.held e.held (super_piece root ∷ []) p.run own_plan) in
       let done : IsDone root t left log d b (record s { root = root; places = t; pending = pending }) (then_as root e) = record { calm = inr w.begun.flushing; own = own; seen = seen; runs = runs } in
       record {
         name = p.entry.name_is ∙ named;
         early = w.begun.early;
         going = w.begun.running;
         each = subst (λ (n : List ℕ). PrefixedEach n (log_of d b log)) named p.prefixed;
+        run = inl (record { due = 0; runs = subst (λ (n : List ℕ). RunsTo n (log_of d b log) 0 left (then_as root e).moment e.held) named led });
         phase = inl done;
       }
 
@@ -127,6 +138,23 @@ some_entries : (img : List ℕ) (root : Super) (names : List (List ℕ)) (bs : L
 some_entries img root _ _ _ _ no_part some = absurd (omega (arith, some))
 some_entries img root _ _ _ _ (a_part name b s e names bs ss es p rest) some = λ none. cc
 
+-- before the superblock is shown each is where the file has it
+begun_at : (img : List ℕ) (all : List Begun) (d : ℕ) (names : List (List ℕ)) (bs : List Begun) (ss : List Session) (es : List Entry) → EachBegins img names bs ss es → AllPaired (IsAt (opened_file img all)) (stands_of d bs names) es
+begun_at img all d _ _ _ _ no_part = tt
+begun_at img all d _ _ _ _ (a_part name b s e names bs ss es p rest) =
+    let goes = (rests name (opened_log img b.columns b.values) e.moment e.held p.run).goes in (
+      record { named = p.entry.name_is; goes = subst (λ (n : List ℕ). Goes n (opened_log img b.columns b.values) e.moment e.held) (sym p.entry.name_is) goes },
+      begun_at img all (suc d) names bs ss es rest,
+    )
+
+off_before : (super : Super) (e : Entry) (es : List Entry) → IsOff (then_as super e) (all_then super es) → IsOff e es
+off_before super e [] off = tt
+off_before super e (x ∷ es) off = (record { own = off.0.own; held = off.0.held; other = off.0.other }, off_before super e es off.1)
+
+all_off_before : (super : Super) (es : List Entry) → AreOff (all_then super es) → AreOff es
+all_off_before super [] off = tt
+all_off_before super (e ∷ es) off = (off_before super e es off.0, all_off_before super es off.1)
+
 pub opens_standing : OpensStanding
 opens_standing img size names summary bs ss limit budget root valid reads opened begun some low high =
     let a = opens_all img size names summary bs ss limit budget root valid reads opened begun low high in
@@ -153,4 +181,7 @@ opens_standing img size names summary bs ss limit budget root valid reads opened
       ends = subst (λ (ws : List Write). WritesEndBy (most_in t (opened_file img bs)) ws) (sym left_is) (omega (arith, long, low), tt);
       going = refl;
       valid = subst (λ (ws : List Write). AreValidFrom 0 img (names_of es) ws) (sym left_is) stays;
+      course = subst (λ (ws : List Write). AreThrough (opened_file img bs) (stands_of 0 bs (names_of es)) ws) (sym left_is)
+          (subst (λ (ns : List (List ℕ)). AreThrough (opened_file img bs) (stands_of 0 bs ns) (super_piece root ∷ [])) (sym named)
+          ((λ begun_here. record { entries = a.entries; each = begun_at img bs 0 names bs ss a.entries a.each; off = all_off_before root a.entries a.off }), tt));
     })

@@ -30,7 +30,7 @@ use Rattle.h5w_several_laws.specs.Turns.{AreKnown, Entry}
 use Rattle.h5w_several_laws.proofs.BesideLemmas.{settled_apart}
 use Rattle.h5w_opening.specs.Openings.{Opened, dataset_found, refused_dataset}
 use Rattle.h5w_opening.proofs.FoundParts.{HeaderFound, header_found_by}
-use Rattle.h5w_session.specs.Openings.{opened_log}
+use Rattle.h5w_session.specs.Openings.{IsOver, opened_log}
 use Rattle.h5w_session.specs.PartLaws.{RunsAs, rooted}
 use Rattle.h5w_session.specs.Sessions.{Session, AllEndBy as WritesEndBy}
 use Rattle.h5w_session.specs.Told.{told_of}
@@ -44,6 +44,8 @@ use Rattle.h5w_session_open.proofs.SessionOver.{some_columns, unrefused_parts}
 use Rattle.h5w_several_session.specs.Opened.{places_from, rested, sessions_at_rest}
 use Rattle.h5w_several_session_laws.specs.Began.{began_end, end_among}
 use Rattle.h5w_several_session_laws.specs.Sessions.{Sessions, all_pending}
+use Rattle.h5w_several_session_laws.proofs.RunLemmas.{rest_run, runs_of}
+use Rattle.h5w_several_session_laws.specs.Courses.{AreThrough, stands_of}
 use Rattle.h5w_several_session_laws.specs.Standing.{AreStandingParts, IsDone, StandsAll, last_image, most_in}
 use Rattle.h5w_several_session_laws.specs.Valid.{AreValidFrom}
 use Rattle.h5w_several_session_laws.proofs.FlushAllLemmas.{stands_all}
@@ -73,11 +75,11 @@ record RestsPart (img : List ℕ) (root : Super) (t : Space) (name : List ℕ) (
 
 module _ (img name : List ℕ) (b : Begun) (root : Super) (place : ℕ) (s : Session) (limit budget : ℕ) (sm : Summary) (valid : Valid img name sm) (reads : ReadsIt img name b) (x : IsSessionAt img (closed_front root) limit budget name place s) (h : HeaderFields)
     (super : super_at (range img 0 48) ≡ Ok root) (root_read : eval img (root_header_for true root.root) ≡ Ok h) (link : linked name h.messages ≡ Ok place) (low : 1024 ≤ limit) (high : limit ≤ 2 ^ 40) where
-  abbrev t : Space
+  abbrev pub t : Space
   t = places_from root.end limit
 
   -- what was found, with the file's own superblock
-  abbrev o : Opened
+  abbrev pub o : Opened
   o = opened_at root place x.found.header
 
   header : HeaderFound img place x.found.header
@@ -92,11 +94,11 @@ module _ (img name : List ℕ) (b : Begun) (root : Super) (place : ℕ) (s : Ses
   dataset_fit : refused_dataset o ≡ None
   dataset_fit = (unrefused_parts o x.index unrefused).dataset
 
-  abbrev plain : Session
+  abbrev pub plain : Session
   plain = session_over o (chunk_0 img place) x.over.kept name limit budget
 
   -- the session that was begun, told of this superblock and with nothing pending
-  at_rest : told_of (record s { pending = [] }) root t ≡ plain
+  pub at_rest : told_of (record s { pending = [] }) root t ≡ plain
   at_rest =
       let resting : Session → Session = λ y. told_of (record y { pending = [] }) root t in
       let with_header : ℕ → List ℕ → Session = λ p front. record plain { place = p; header = front } in
@@ -110,6 +112,13 @@ module _ (img name : List ℕ) (b : Begun) (root : Super) (place : ℕ) (s : Ses
       let same : o.header.dataset.shape.cols ≡ b.columns = ap (λ (d : Described). d.shape.cols) (sym (dataset_same img name o first.0 found first.1)) ∙ first.4 in
       let some = some_columns o dataset_fit in
       omega (arith, some, same)
+
+  -- it has what the file has, at whatever moment that is
+  pub over_here : (m : Moment) → Represents img name m → IsOver plain img m
+  over_here m file = over_by img name limit budget o x.over.kept found low high x.index x.read.index x.over.is_kept unrefused m file
+
+  pub some_here : (m : Moment) → Represents img name m → 0 < m.dataset.shape.cols
+  some_here m file = subst (λ (d : Described). 0 < d.shape.cols) (sym (dataset_same img name o m found file)) (some_columns o dataset_fit)
 
   rests_at : (m : Moment) → (file : Represents img name m) → RunsAs plain [] (opened_log img b.columns b.values) m (λ key. address_in x.over.kept key) m.behind plain.places → (e : Entry) × RestsPart img root t name b s e
   rests_at m file r =
@@ -198,7 +207,7 @@ module _ (img : List ℕ) (root : Super) (t : Space) (us : List Used) (all : Lis
       let u : Session = told_of (record s { pending = [] }) root t in
       let named : name ≡ u.name = sym p.named in
       let done : IsDone root t [] log d b u e = record { calm = inl refl; own = own; seen = seen_opened img all d b 0 [] (opened_end img all b root read); runs = p.runs } in (
-        record { name = p.entry.name_is ∙ named; early = p.early; going = p.going; each = subst (λ (n : List ℕ). PrefixedEach n (log_of d b log)) named p.prefixed; phase = inl done },
+        record { name = p.entry.name_is ∙ named; early = p.early; going = p.going; each = subst (λ (n : List ℕ). PrefixedEach n (log_of d b log)) named p.prefixed; run = inl (rest_run u.name (log_of d b log) e (runs_of u [] own e.moment e.address e.held t p.runs)); phase = inl done },
         rest_parts (suc d) names bs ss es (before ++ []) rest,
       )
 
@@ -231,5 +240,6 @@ takes_standing img size names summary bs limit budget S valid reads taken begun 
       ends = subst (λ (ws : List Write). WritesEndBy (most_in t log) ws) none tt;
       going = refl;
       valid = subst (λ (ws : List Write). AreValidFrom 0 img (names_of es) ws) none whole;
+      course = subst (λ (ws : List Write). AreThrough log (stands_of 0 bs (names_of es)) ws) none tt;
     }) in
     subst (λ (y : Sessions). StandsAll y log) (sym taken.session) own

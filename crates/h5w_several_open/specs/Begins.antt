@@ -8,6 +8,8 @@ use Rattle.h5w_model.specs.Several.{Begun}
 use Rattle.h5w_model.specs.Tables.{Reads}
 use Rattle.h5w_model.specs.declared.root.Super.{Super}
 use Rattle.h5w_visits.specs.Ranges.{Among}
+use Rattle.h5w_steps.specs.Plans.{Plan}
+use Rattle.h5w_steps.specs.Sessions.{Runs}
 use Rattle.h5w_several_laws.specs.Turns.{AreKnown, AreOff, Entry, all_then, then_as}
 use Rattle.h5w_session.specs.Openings.{opened_log}
 use Rattle.h5w_session.specs.PartLaws.{RunsAs, super_piece}
@@ -26,6 +28,9 @@ ReadsIt img name b = (rows : ℕ) × Reads img name rows b.columns b.values
 pub record BeginsPart (img name : List ℕ) (b : Begun) (s : Session) (e : Entry) : Type 0 where
   pub entry : IsEntry img s.places name e
   pub prefixed : PrefixedEach name (opened_log img b.columns b.values)
+  -- nothing happened yet, and the superblock's piece brings no rows
+  pub run : Runs name (opened_log img b.columns b.values) [] e.moment e.held
+  pub plan : Plan img e.moment e.held (super_piece s.root ∷ []) (then_as s.root e).moment e.held
   pub times : ℕ
   pub runs : RunsAs (record s { pending = [] }) [] (told_log times (super_piece s.root ∷ []) (opened_log img b.columns b.values)) (then_as s.root e).moment e.address e.held s.places
 

@@ -2,23 +2,27 @@
 --
 -- `append` and `open` speak of the dataset in use; `use I` changes it. A flush takes the rows of all datasets: a part
 -- for each dataset with rows that wait. Pieces are pending of all parts together. A reader's lines speak of the dataset
--- that it was opened for.
-use Rattle.std.specs.Prelude.{◌≡◌, ◌⊎◌, ℕ, zero, suc, ◌+◌, ◌-◌, ◌*◌, ◌<◌, ◌≤◌, min, Bool, true, false, List, [], ◌∷◌, ◌++◌, length, map, ℤ, nat_lt, if◌then◌else◌, MatchBool, Some, None, slice_get, slice_set}
+-- that it was opened for. `takeover` begins another writer where one was stopped.
+use Rattle.std.specs.Prelude.{◌≡◌, ◌⊎◌, ℕ, zero, suc, ◌+◌, ◌-◌, ◌*◌, ◌<◌, ◌≤◌, min, Bool, true, false, List, [], ◌∷◌, ◌++◌, length, map, take, ℤ, nat_lt, if◌then◌else◌, MatchBool, Some, None, slice_get, slice_set}
 use Rattle.h5w_model.specs.Lawful.{Rules, Line, adds, flushes, shows_up_to, ends, opens, refreshes, reads, looks, ScriptState, Allowed, after_shows, append_reply, at_first, load_of, next_state, reader_in, rows_in, rows_of}
 use Rattle.h5w_model.specs.declared.reply.Reply.{Reply}
 use Rattle.h5w_model.specs.declared.reply.Reply.TheVariants as replies
 
--- From this line on `append` and `open` speak of dataset i, counted from 1; or a line as a script of one dataset has
--- it.
+-- From this line on `append` and `open` speak of dataset i, counted from 1; another writer takes the file over; or a line
+-- as a script of one dataset has it.
 pub data FileLine : Type 0 where
   uses : ℕ → FileLine
+  takes : FileLine
   asks : Line → FileLine
 
--- that dataset i is in use; how many pieces a flush planned for each dataset, in their order; or a reply as a script of
--- one dataset is given it
+-- That dataset i is in use; how many pieces a flush planned for each dataset, in their order; that the writer was not
+-- stopped, so that nobody took over; the rows of each dataset with which a writer took over; or a reply as a script of
+-- one dataset is given it.
 pub data FileReply : Type 0 where
   using : ℕ → FileReply
   flushing_each : List ℕ → FileReply
+  goes_on : FileReply
+  took_over : List ℕ → FileReply
   says : Reply → FileReply
 
 -- ---- The state
@@ -136,6 +140,31 @@ FlushAllowedIn F reply =
     (MatchBool (nat_lt 0 (pending_in F)) (reply ≡ says (replies.Busy (pending_in F)))
     (MatchBool (some_wait F.sets) (IsPlannedIn F reply ⊎ IsFullIn F reply) (reply ≡ flushing_each (map (λ (x : SetState). 0) F.sets))))
 
+-- ---- Another writer
+
+-- One dataset once another writer took the file over: the rows that were not flushed are gone, and nothing is pending. A
+-- takeover counts among the loads, as a plan without rows.
+abbrev pub settled_state : Rules → ScriptState → ScriptState
+settled_state g s =
+    let kept = take (s.flushed * g.cutting.columns) s.appended in
+    record s { appended = kept; pending = 0; ends_flush = false; spent = s.spent + load_of g s kept; stopped = false }
+
+abbrev pub settled_set : SetState → SetState
+settled_set x = with_state x (settled_state x.rules x.state)
+
+abbrev pub settled_in : FileState → FileState
+settled_in F =
+    let sets = map settled_set F.sets in
+    record F { sets = sets; left = map (λ (n : ℕ). 0) F.left; spent = F.spent + load_in sets; stopped = false }
+
+-- the rows of each dataset that were flushed
+abbrev pub flushed_of : List SetState → List ℕ
+flushed_of xs = map (λ (x : SetState). x.state.flushed) xs
+
+-- only a writer that was stopped is taken over
+abbrev pub TakeAllowedIn : FileState → FileReply → Type 0
+TakeAllowedIn F reply = MatchBool F.stopped (reply ≡ took_over (flushed_of F.sets)) (reply ≡ goes_on)
+
 -- ---- The readers' replies
 
 -- the number of the dataset that a reader was opened for, these being counted from d on; another number where it was
@@ -161,6 +190,7 @@ pub record AllowedOf (F : FileState) (d : ℕ) (line : Line) (reply : FileReply)
 -- a reply that a line may be given
 abbrev pub AllowedAll : FileState → FileLine → FileReply → Type 0
 AllowedAll F (uses i) reply = (1 ≤ i) × (i ≤ length F.sets) × (reply ≡ using i)
+AllowedAll F takes reply = TakeAllowedIn F reply
 AllowedAll F (asks (adds vs)) reply = AppendAllowedIn F vs reply
 AllowedAll F (asks flushes) reply = FlushAllowedIn F reply
 AllowedAll F (asks (shows_up_to k)) reply = reply ≡ says (replies.Written (min k (pending_in F)) (pending_in F - min k (pending_in F)))
@@ -219,6 +249,7 @@ asked_of F r line reply = record F { sets = sets_after (set_asked F r) line repl
 -- the state after a line that was given a reply
 abbrev pub next_all : FileState → FileLine → FileReply → FileState
 next_all F (uses i) (using n) = record F { used = i - 1 }
+next_all F takes (took_over rows) = settled_in F
 next_all F (asks (adds vs)) (says (replies.Appended rows pending)) = added F vs rows pending
 next_all F (asks flushes) (flushing_each counts) = record F { sets = planned 0 counts F.sets; left = counts; spent = F.spent + load_in F.sets }
 next_all F (asks (shows_up_to k)) (says (replies.Written pieces pending)) = record F { sets = shown_sets pieces F.sets; left = left_after pieces F.left }

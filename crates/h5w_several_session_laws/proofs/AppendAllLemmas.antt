@@ -16,8 +16,10 @@ use Rattle.h5w_session.specs.Refusals.{append_refusal}
 use Rattle.h5w_session.specs.Sessions.{AllEndBy, AreRows, Session, with_values}
 use Rattle.h5w_session.specs.PartLaws.{PartLaws}
 use Rattle.h5w_several_session_laws.specs.Sessions.{AppendsTo, AreSameBut, SameButHeld, Sessions, all_pending}
+use Rattle.h5w_several_session_laws.specs.Courses.{AreThrough, stands_of}
 use Rattle.h5w_several_session_laws.specs.Valid.{AreValidFrom}
-use Rattle.h5w_several_session_laws.specs.Standing.{AreStandingParts, IsStandingPart, StandsOn, and_then, last_image, most_in, rested}
+use Rattle.h5w_several_session_laws.specs.Standing.{AreStandingParts, HasRun, IsStandingPart, StandsOn, and_then, last_image, most_in, rested}
+use Rattle.h5w_several_session_laws.proofs.RunLemmas.{appended_run}
 use Rattle.h5w_several_session_laws.proofs.SightLemmas.{each_next, others_values, seen_appended, seen_other}
 use Rattle.h5w_several_session_laws.proofs.FlushAllLemmas.{back_nil, front_nil}
 
@@ -42,6 +44,10 @@ module _ (p : PartLaws) (root : Super) (t : Space) (us : List Used) (log : FileL
     early = x.early;
     going = x.going;
     each = subst (λ (hs : List Happening). PrefixedEach s.name (let l : Log = record (log_of d b log) { events = hs } in l)) (sym (others_values d n values log.events other)) x.each;
+    run = elim x.run [
+      | inl h ↦ inl (subst (λ (hs : List Happening). HasRun s.name (let l : Log = record (log_of d b log) { events = hs } in l) [] e) (sym (others_values d n values log.events other)) h)
+      | inr u ↦ absurd (u.some refl)
+    ];
     phase = elim x.phase [
       | inl done ↦ inl (record { calm = done.calm; own = done.own; seen = seen_other log d n b done.own values [] other done.seen; runs = done.runs })
       | inr due ↦ absurd (due.some idle)
@@ -75,6 +81,10 @@ module _ (p : PartLaws) (root : Super) (t : Space) (us : List Used) (log : FileL
           early = x.early;
           going = x.going;
           each = each_next s.name log (appends_to n values) (appends values) n b (and_now (appends values) done.own) [] is runs.running.runs.goes.prefixed seen x.each;
+          run = elim x.run [
+            | inl h ↦ inl (subst (λ (l : Log). HasRun s.name l [] e) (sym is) (appended_run s.name (log_of n b log) values e h))
+            | inr u ↦ absurd (u.some refl)
+          ];
           phase = inl (record {
             calm = done.calm;
             own = and_now (appends values) done.own;
@@ -131,6 +141,7 @@ appends_stand p old new d values log st idle x rows accepted =
       ends = subst (λ (ws : List Write). AllEndBy (most_in old.places log) (pieces_in log.events ++ ws)) (sym same) st.ends;
       going = st.going;
       valid = subst (λ (ws : List Write). AreValidFrom log.first log.start (names_of st.entries) (pieces_in log.events ++ ws)) (sym same) st.valid;
+      course = subst (λ (ws : List Write). AreThrough next (stands_of 0 log.sets (names_of st.entries)) ws) (sym (same ∙ idle)) tt;
     })
 
 -- ---- A flush is refused
@@ -154,6 +165,10 @@ module _ (p : PartLaws) (root : Super) (t : Space) (us : List Used) (left : List
           early = ap (λ (z : Session). z.early) x.session ∙ y.early;
           going = ap (λ (z : Session). z.stopped) x.session ∙ y.going;
           each = subst (λ (k : List ℕ). PrefixedEach k (log_of d b log)) (sym name) y.each;
+          run = elim y.run [
+            | inl h ↦ inl (subst (λ (k : List ℕ). HasRun k (log_of d b log) left e) (sym name) h)
+            | inr u ↦ inr (record { calm = ap (λ (z : Session). z.flushing) x.session ∙ u.calm; some = u.some; first = u.first })
+          ];
           phase = inl (record {
             calm = inl (ap (λ (z : Session). z.pending) x.session ∙ idle);
             own = done.own;
@@ -200,4 +215,5 @@ refused_stands p old new log st idle x =
       ends = subst (λ (ws : List Write). AllEndBy (most_in old.places log) (pieces_in log.events ++ ws)) (sym same) st.ends;
       going = st.going;
       valid = subst (λ (ws : List Write). AreValidFrom log.first log.start (names_of st.entries) (pieces_in log.events ++ ws)) (sym same) st.valid;
+      course = subst (λ (ws : List Write). AreThrough log (stands_of 0 log.sets (names_of st.entries)) ws) (sym (same ∙ idle)) tt;
     })

@@ -25,7 +25,7 @@ all_shown p old new w log st x = elim st.is [
 ]
 
 keeps_on : (S : Sessions) (log : FileLog) → StandsOn S log → StandsOn (keeping S) log
-keeps_on S log st = record { ranges = st.ranges; entries = st.entries; known = st.known; off = st.off; blocks = st.blocks; parts = st.parts; fits = st.fits; low = st.low; ends = st.ends; going = st.going; valid = st.valid }
+keeps_on S log st = record { ranges = st.ranges; entries = st.entries; known = st.known; off = st.off; blocks = st.blocks; parts = st.parts; fits = st.fits; low = st.low; ends = st.ends; going = st.going; valid = st.valid; course = st.course }
 
 all_keep : (S : Sessions) (log : FileLog) → StandsAll S log → StandsAll (keeping S) log
 all_keep S log st = record {

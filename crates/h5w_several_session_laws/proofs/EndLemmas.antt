@@ -1,17 +1,18 @@
 -- A session of several datasets that is stopped or closed.
-use Rattle.std.proofs.Common.{◌≡◌, ℕ, suc, ◌/◌, ◌%◌, true, false, Bool, List, [], ◌∷◌, ◌++◌, Ok, refl, sym, ◌∙◌, ap, subst, inl, inr, arith, append-nil}
+use Rattle.std.proofs.Common.{◌≡◌, ◌⊎◌, ℕ, suc, ◌/◌, ◌%◌, true, false, Bool, List, [], ◌∷◌, ◌++◌, Ok, refl, sym, ◌∙◌, ap, subst, inl, inr, arith, append-nil}
 use Rattle.std.specs.Prelude.{map, ◌==◌}
 use Rattle.std.proofs.lemmas.Bool.{eq-eqb, or_right}
 use Rattle.h5w_model.specs.Images.{image}
 use Rattle.h5w_model.specs.Datasets.{is_swmr}
 use Rattle.h5w_model.specs.Findings.{Used}
 use Rattle.h5w_model.specs.Logs.{Log}
-use Rattle.h5w_model.specs.Several.{Begun, FileLog, pieces_in}
+use Rattle.h5w_model.specs.Several.{Begun, FileLog, log_of, pieces_in}
 use Rattle.h5w_model.specs.Superblock.{super_at, super_bytes}
 use Rattle.h5w_model.specs.declared.piece.Write.{Write}
 use Rattle.h5w_model.specs.declared.root.Super.{Super}
 use Rattle.h5w_space.specs.Space.{Space}
 use Rattle.h5w_steps.specs.Logs.{image_now}
+use Rattle.h5w_steps.specs.Plans.{Plan}
 use Rattle.h5w_flush_laws.specs.Knowledge.{KnownHeld}
 use Rattle.h5w_several_laws.specs.Together.{names_of}
 use Rattle.h5w_several_laws.specs.Turns.{AreKnown, AreOff, Entry, IsOne, all_then, then_as}
@@ -23,9 +24,12 @@ use Rattle.h5w_session.proofs.PastLemmas.{ends_front, ends_joined}
 use Rattle.h5w_session.specs.PartLaws.{PartLaws, RunsAs, super_piece}
 use Rattle.h5w_several_session_laws.specs.Began.{IsAmple}
 use Rattle.h5w_several_session_laws.specs.Sessions.{AfterPieceOf, AreFlushing, AreParts, AreShown, Sessions, all_pending, closed_all, closed_part, closed_parts, closed_super, halted, halted_of, stopped_all}
+use Rattle.h5w_several_session_laws.specs.Courses.{AreAt, AreThrough, Stand, stands_of}
 use Rattle.h5w_several_session_laws.specs.Valid.{AreValidFrom}
-use Rattle.h5w_several_session_laws.specs.Standing.{AreStandingParts, IsDone, IsStandingPart, StandsAll, StandsOn, last_image, most_in, rested}
+use Rattle.h5w_several_session_laws.proofs.CourseLemmas.{standing_at}
+use Rattle.h5w_several_session_laws.specs.Standing.{AreStandingParts, HasRun, IsDone, IsStandingPart, IsUnbegun, StandsAll, StandsOn, last_image, most_in, rested}
 use Rattle.h5w_several_session_laws.proofs.ValidLemmas.{valid_last}
+use Rattle.h5w_several_session_laws.proofs.RunLemmas.{planned_run, run_rests, sight_image}
 use Rattle.h5w_several_session_laws.proofs.SightLemmas.{seen_told}
 use Rattle.h5w_several_session_laws.proofs.TurnPartLemmas.{entry, entry_is, last_joined, own_image, own_most, settled_runs}
 use Rattle.h5w_several_session_laws.proofs.FlushAllLemmas.{back_nil, front_nil}
@@ -271,6 +275,7 @@ module _ (p : PartLaws) (S : Sessions) (us : List Used) (log : FileLog) (low : I
     done : IsDone root t piece log d b (closing_part root s) (then_as root e)
     one : IsOne (last_image log piece) t root us (then_as root e)
     ends : AllEndBy (most_in t log) piece
+    run : HasRun s.name (log_of d b log) [] e → HasRun s.name (log_of d b log) piece (then_as root e)
 
   closing_one : (d : ℕ) (b : Begun) (s : Session) (e : Entry) → e.name ≡ s.name → s.early ≡ 0 → s.flushing ≡ false → IsDone S.root t [] log d b s e → IsOne (last_image log []) t S.root us e → IsClosing d b s e
   closing_one d b s e name early calm x one =
@@ -298,7 +303,18 @@ module _ (p : PartLaws) (S : Sessions) (us : List Used) (log : FileLog) (low : I
         };
         one = subst (λ (y : Entry). IsOne (last_image log piece) t root us (then_as root y)) (sym same) (record { knows = there.knows; super_is = refl; root_is = own_one.root_is; held_is = there.is; cols = own_one.cols });
         ends = subst (λ (n : ℕ). AllEndBy n piece) most told.0.ends;
+        run = λ h. record {
+          due = 0;
+          runs = planned_run s.name (log_of d b log) e.moment (moved_to root e.moment) e.held e.held piece (run_rests s.name (log_of d b log) e h)
+              (subst (λ (y : Entry). Plan (image_now (log_of d b log)) y.moment y.held piece (moved_to root y.moment) y.held) (sym same)
+              (subst (λ (i : List ℕ). Plan i r.after r.held piece (moved_to root r.after) r.held) (own_image log d b x.own [] x.seen ∙ sym (sight_image log d b [])) told.0.plan));
+        };
       }
+
+  -- there is a file already
+  rest_of : (d : ℕ) (b : Begun) (s : Session) (e : Entry) → HasRun s.name (log_of d b log) [] e ⊎ IsUnbegun log [] s → HasRun s.name (log_of d b log) [] e
+  rest_of d b s e (inl h) = h
+  rest_of d b s e (inr u) = absurd (u.some refl)
 
   record AreClosing (d : ℕ) (bs : List Begun) (ss : List Session) (es : List Entry) : Type 0 where
     parts : AreStandingParts root t us piece log d bs piece (map (closing_part root) ss) (all_then root es)
@@ -312,7 +328,7 @@ module _ (p : PartLaws) (S : Sessions) (us : List Used) (log : FileLog) (low : I
       let later = closing_ones (suc d) bs (before ++ s.pending) ss es calm.1 x.1 known.1 in
       record {
         parts = (
-          record { name = x.0.name; early = x.0.early; going = x.0.going; each = x.0.each; phase = inl one.done },
+          record { name = x.0.name; early = x.0.early; going = x.0.going; each = x.0.each; run = inl (one.run (rest_of d b s e x.0.run)); phase = inl one.done },
           later.parts,
         );
         known = (one.one, later.known);
@@ -339,7 +355,7 @@ module _ (p : PartLaws) (S : Sessions) (us : List Used) (log : FileLog) (low : I
       let own : IsDone root t piece log 0 b (record s { root = root; pending = piece; flushing = false }) (then_as root e) = record { calm = inr refl; own = one.done.own; seen = one.done.seen; runs = one.done.runs } in
       record {
         parts = subst (λ (ws : List Write). AreStandingParts root t us ws log 0 (b ∷ bs) [] (closing_parts root (s ∷ ss)) (all_then root (e ∷ es))) (sym all)
-            (record { name = x.0.name; early = x.0.early; going = x.0.going; each = x.0.each; phase = inl own }, later.parts);
+            (record { name = x.0.name; early = x.0.early; going = x.0.going; each = x.0.each; run = inl (one.run (rest_of 0 b s e x.0.run)); phase = inl own }, later.parts);
         known = subst (λ (ws : List Write). AreKnown (last_image log ws) t root us (all_then root (e ∷ es))) (sym all) (one.one, later.known);
         ends = subst (λ (ws : List Write). AllEndBy (most_in t log) ws) (sym all) one.ends;
       }
@@ -364,6 +380,11 @@ closed_valid root t us log [] [] (e ∷ es) x known off valid = absurd x
 closed_valid root t us log (b ∷ bs) [] es x known off valid = absurd x
 closed_valid root t us log (b ∷ bs) (s ∷ ss) [] x known off valid = absurd x
 
+-- before it all is as it was
+closed_course : (root : Super) (log : FileLog) (ss : List Session) (xs : List Stand) → AreAt log xs → AreThrough log xs (all_pending (closing_parts root ss))
+closed_course root log [] xs at = tt
+closed_course root log (s ∷ ss) xs at = subst (λ (ws : List Write). AreThrough log xs (super_piece root ∷ ws)) (sym (none_closing root ss)) ((λ begun. at), tt)
+
 pub closes_stand : PartLaws → (S : Sessions) (log : FileLog) → StandsOn S log → all_pending S.parts ≡ [] → AreParts S S.parts → super_at (super_bytes (closed_super S)) ≡ Ok (closed_super S) → StandsAll (closed_all S) log
 closes_stand p S log st idle x reads =
     let us = st.ranges in
@@ -386,6 +407,8 @@ closes_stand p S log st idle x reads =
         going = st.going;
         valid = closed_valid (closed_super S) S.places us log log.sets S.parts st.entries closed.parts closed.known st.off
             (subst (λ (ws : List Write). AreValidFrom log.first log.start (names_of st.entries) ws) (ap (λ (ws : List Write). pieces_in log.events ++ ws) idle ∙ append-nil (pieces_in log.events)) st.valid);
+        course = subst (λ (ns : List (List ℕ)). AreThrough log (stands_of 0 log.sets ns) (all_pending (closing_parts (closed_super S) S.parts))) (sym (names_then (closed_super S) st.entries))
+            (closed_course (closed_super S) log S.parts (stands_of 0 log.sets (names_of st.entries)) (record { entries = st.entries; each = standing_at S.root S.places us log 0 log.sets [] S.parts st.entries parts; off = st.off }));
       };
       is = inr (inl (closed_is S x calm));
     }

@@ -6,12 +6,15 @@ use Rattle.std.proofs.lemmas.List.{append_cancel_left, length_push, nil_from_len
 use Rattle.h5w_model.specs.Images.{image}
 use Rattle.h5w_model.specs.Findings.{Used}
 use Rattle.h5w_model.specs.Logs.{Log, and_now, appended, flushed, plans}
-use Rattle.h5w_model.specs.Several.{Begun, FileLog, pieces_in, plans_each, up_to}
+use Rattle.h5w_model.specs.Several.{Begun, FileLog, log_of, pieces_in, plans_each, up_to}
 use Rattle.h5w_model.specs.declared.piece.Write.{Write}
 use Rattle.h5w_model.specs.declared.root.Super.{Super}
 use Rattle.h5w_space.specs.Space.{Space}
 use Rattle.h5w_steps.specs.Logs.{image_now}
+use Rattle.h5w_steps.specs.Moments.{Moment}
 use Rattle.h5w_several_laws.specs.Beside.{with_root}
+use Rattle.h5w_several_laws.specs.Dues.{RunsTo, Waits}
+use Rattle.h5w_several_laws.proofs.DueLemmas.{plan_due}
 use Rattle.h5w_several_laws.specs.Together.{StaysValid, names_of}
 use Rattle.h5w_several_laws.specs.Turns.{AreKnown, Entry}
 use Rattle.h5w_session.specs.Sessions.{AllEndBy, Session}
@@ -20,12 +23,15 @@ use Rattle.h5w_session.specs.Told.{told_of}
 use Rattle.h5w_session.proofs.PastLemmas.{ends_front, ends_joined}
 use Rattle.h5w_session.proofs.StandLemmas.{resting}
 use Rattle.h5w_session.specs.PartLaws.{PartLaws}
-use Rattle.h5w_several_session_laws.specs.Sessions.{FlushesAll, Sessions, all_pending, bare, counts_of}
-use Rattle.h5w_several_session_laws.specs.Valid.{AreValidFrom}
-use Rattle.h5w_several_session_laws.specs.Standing.{AreStandingParts, IsDone, IsOwed, IsStandingPart, StandsAll, StandsOn, and_then, last_image, most_in, rested}
+use Rattle.h5w_several_session_laws.specs.Sessions.{AreFlushed, FlushesAll, Sessions, all_pending, bare, counts_of}
+use Rattle.h5w_several_session_laws.specs.Courses.{AreThrough, stands_of}
+use Rattle.h5w_several_session_laws.specs.Valid.{AreValidFrom, names_in}
+use Rattle.h5w_several_session_laws.specs.Standing.{AreStandingParts, HasRun, IsDone, IsOwed, IsStandingPart, IsUnbegun, StandsAll, StandsOn, and_then, last_image, most_in, rested}
 use Rattle.h5w_several_session_laws.proofs.SightLemmas.{each_next, seen_flushed, seen_planned}
+use Rattle.h5w_several_session_laws.proofs.RunLemmas.{none_waits, rest_waits, run_rests}
 use Rattle.h5w_several_session_laws.proofs.TurnPartLemmas.{IsPlannedPart, settled_runs}
 use Rattle.h5w_several_session_laws.proofs.ValidLemmas.{valid_more}
+use Rattle.h5w_several_session_laws.proofs.CourseLemmas.{AreCounted, flush_course}
 use Rattle.h5w_several_session_laws.proofs.ValidFlushLemmas.{flush_valid, flushed_names, out_names, standing_names}
 use Rattle.h5w_several_session_laws.proofs.FoldPartLemmas.{AllOut, AllRest, IsOut, folded, seat}
 
@@ -106,16 +112,18 @@ module _ (last : Super) (end : Space) (us : List Used) (total : List Write) (log
     own_cut : total ≡ (before ++ part.pending) ++ behind
     own_cut = cut ∙ ap (λ (y : Session). (before ++ y.pending) ++ behind) o.told
 
-    done : IsDone last end total log d b part e × (part.pending ≡ []) → IsStandingPart last end us total next d b before v behind e
+    done : IsDone last end total log d b part e × (part.pending ≡ []) × Waits part.name (log_of d b log) total e.moment e.held → IsStandingPart last end us total next d b before v behind e
     done x =
         let r = x.0.runs.running in
         let settled = settled_runs part.name x.0.own r.after r.held r.runs in
+        let values : e.moment.values ≡ appended (log_of d b log) = ap (λ (m : Moment). m.values) (sym x.0.runs.after) ∙ none_waits (rested last end part) [] x.0.own r o.none ∙ x.0.seen.appended in
         let seen = seen_planned log d b x.0.own total x.0.seen settled (nothing_waits (rested last end part) x.0.own r o.none) counts in
         record {
           name = o.inside.name;
           early = o.inside.early;
           going = o.inside.going;
           each = each_next part.name log (plans_each counts) (plans (up_to d counts)) d b x.0.own total refl r.runs.goes.prefixed seen o.inside.each;
+          run = inl (record { due = 0; runs = plan_due.none part.name (log_of d b log) total (up_to d counts) e.moment e.held x.2 values });
           phase = inl (record { calm = x.0.calm; own = x.0.own; seen = seen; runs = x.0.runs });
         }
 
@@ -128,12 +136,19 @@ module _ (last : Super) (end : Space) (us : List Used) (total : List Write) (log
         let n = length part.pending in
         let own = and_now (plans n) x.own in
         let seen = seen_flushed log d b x.own before x.seen x.settled counts n (some_length part.pending x.some) own_count in
+        let sight : Log = log_of d b log in
+        let y = x.whole in
+        let many : length (before ++ part.pending) ≡ up_to d counts = length-append before part.pending ∙ sym own_count in
+        let all : RunsTo part.name (and_now (plans (length (before ++ part.pending))) sight) (length (before ++ part.pending)) total e.moment e.held =
+        subst (λ (ws : List Write). RunsTo part.name (and_now (plans (length (before ++ part.pending))) sight) (length (before ++ part.pending)) ws e.moment e.held) (sym x.cut)
+        (plan_due.part part.name sight before part.pending x.behind y.moment y.middle e.moment y.held y.now e.held y.waits y.flush x.some y.values y.plan) in
         let same : x.behind ≡ behind = append_cancel_left (before ++ part.pending) x.behind behind (sym x.cut ∙ own_cut) in
         record {
           name = o.inside.name;
           early = o.inside.early;
           going = o.inside.going;
           each = each_next part.name log (plans_each counts) (plans (up_to d counts)) d b own before refl x.runs.running.runs.goes.prefixed seen o.inside.each;
+          run = inl (record { due = length (before ++ part.pending); runs = subst (λ (k : ℕ). RunsTo part.name (and_now (plans k) sight) (length (before ++ part.pending)) total e.moment e.held) many all });
           phase = inr (record {
             some = x.some;
             flushing = x.flushing;
@@ -150,7 +165,7 @@ module _ (last : Super) (end : Space) (us : List Used) (total : List Write) (log
           });
         }
 
-    go : (IsDone last end total log d b part e × (part.pending ≡ [])) ⊎ IsPlannedPart last end us total log (seat d b before part) e → IsStandingPart last end us total next d b before v behind e
+    go : (IsDone last end total log d b part e × (part.pending ≡ []) × Waits part.name (log_of d b log) total e.moment e.held) ⊎ IsPlannedPart last end us total log (seat d b before part) e → IsStandingPart last end us total next d b before v behind e
     go (inl x) = done x
     go (inr x) = due x
 
@@ -184,6 +199,10 @@ pub at_rest : (root : Super) (t : Space) (us : List Used) (left : List Write) (l
 at_rest root t us left log d [] before [] [] none idle x = tt
 at_rest root t us left log d (b ∷ bs) before (s ∷ ss) (e ∷ es) none idle x =
     let own = front_nil s.pending (all_pending ss) idle in
+    let waits : HasRun s.name (log_of d b log) left e ⊎ IsUnbegun log left s → Waits s.name (log_of d b log) [] e.moment e.held = λ run. elim run [
+      | inl h ↦ rest_waits s.name (log_of d b log) e.moment e.held (run_rests s.name (log_of d b log) e (subst (λ (ws : List Write). HasRun s.name (log_of d b log) ws e) none h))
+      | inr u ↦ absurd (u.some none)
+    ] in
     let i = x.0 in (
       (
         record {
@@ -192,7 +211,7 @@ at_rest root t us left log d (b ∷ bs) before (s ∷ ss) (e ∷ es) none idle x
           going = i.going;
           each = i.each;
           phase = elim i.phase [
-            | inl done ↦ inl (subst (λ (ws : List Write). IsDone root t ws log d b s e) none done, own)
+            | inl done ↦ inl (subst (λ (ws : List Write). IsDone root t ws log d b s e) none done, own, waits i.run)
             | inr due ↦ absurd (due.some own)
           ];
         },
@@ -204,6 +223,25 @@ at_rest root t us left log d [] before (s ∷ ss) es none idle x = absurd x
 at_rest root t us left log d [] before [] (e ∷ es) none idle x = absurd x
 at_rest root t us left log d (b ∷ bs) before [] es none idle x = absurd x
 at_rest root t us left log d (b ∷ bs) before (s ∷ ss) [] none idle x = absurd x
+
+-- so many pieces come up to the last one of each part
+counted_parts : (counts : List ℕ) (front : List Session) (root last : Super) (t end : Space) (n d : ℕ) (bs : List Begun) (ss uu : List Session) → counts ≡ counts_of (front ++ uu) → d ≡ length front → n ≡ length (all_pending front) → AreFlushed root t ss last end uu
+    → (log : FileLog) → AreCounted log counts n (stands_of d bs (names_in ss)) uu
+counted_parts counts front root last t end n d [] ss uu is number first x log = tt
+counted_parts counts front root last t end n d (b ∷ bs) [] uu is number first x log = tt
+counted_parts counts front root last t end n d (b ∷ bs) (s ∷ ss) [] is number first x log = absurd x
+counted_parts counts front root last t end n d (b ∷ bs) (s ∷ ss) (u ∷ uu) is number first x log =
+    let count : up_to d counts ≡ n + length u.pending = ap (λ (k : ℕ). up_to k counts) number ∙ ap (up_to (length front)) is ∙ up_to_own front u uu ∙ ap (λ (k : ℕ). k + length u.pending) (sym first) in
+    let more : front ++ u ∷ uu ≡ (front ++ u ∷ []) ++ uu = sym (append_assoc front (u ∷ []) uu) in
+    let next : suc d ≡ length (front ++ u ∷ []) = let k = length_push front u in omega (arith, number, k) in
+    let both : n + length u.pending ≡ length (all_pending (front ++ u ∷ [])) =
+    ap (λ (k : ℕ). k + length u.pending) first ∙ sym (length-append (all_pending front) u.pending) ∙ ap (λ (ws : List Write). length (all_pending front ++ ws)) (sym (append-nil u.pending)) ∙ ap length (sym (pending_joined front (u ∷ []))) in (
+      count,
+      elim x [
+        | inl none ↦ counted_parts counts (front ++ u ∷ []) root last t end (n + length u.pending) (suc d) bs ss uu (is ∙ ap counts_of more) next both none.2 log
+        | inr turn ↦ counted_parts counts (front ++ u ∷ []) turn.0.root last turn.0.places end (n + length u.pending) (suc d) bs ss uu (is ∙ ap counts_of more) next both turn.3 log
+      ],
+    )
 
 pub flushes_stand : PartLaws → (old new : Sessions) (log : FileLog) → StandsOn old log → all_pending old.parts ≡ [] → FlushesAll old new → StandsOn new (and_then (plans_each (counts_of new.parts)) log)
 flushes_stand p old new log st idle x =
@@ -234,4 +272,7 @@ flushes_stand p old new log st idle x =
       valid = subst (λ (ns : List (List ℕ)). AreValidFrom log.first log.start ns (pieces_in log.events ++ total)) (sym named)
           (valid_more log.first log.start names (pieces_in log.events) total (subst (λ (ws : List Write). AreValidFrom log.first log.start names ws) none st.valid)
           (subst (λ (ws : List Write). StaysValid (image log.start ws) names total) (append-nil (pieces_in log.events)) stays));
+      course = subst (λ (ns : List (List ℕ)). AreThrough (and_then (plans_each (counts_of new.parts)) log) (stands_of 0 log.sets ns) total) (sym (named ∙ standing_names old.root old.places us left log 0 log.sets [] old.parts st.entries st.parts))
+          (flush_course p log us st.blocks (counts_of new.parts) old.root new.root old.places new.places log.sets old.parts new.parts st.entries known st.off rest (record { ends = st.fits; low = st.low }) x.parts
+          (counted_parts (counts_of new.parts) [] old.root new.root old.places new.places 0 0 log.sets old.parts new.parts refl refl refl x.parts log));
     }

@@ -9,6 +9,7 @@ use Rattle.h5w_model.specs.declared.piece.Write.{Write}
 use Rattle.h5w_model.specs.declared.root.Super.{Super}
 use Rattle.h5w_visits.specs.Ranges.{Among}
 use Rattle.h5w_space.specs.Space.{Space}
+use Rattle.h5w_several_laws.specs.Dues.{Waits}
 use Rattle.h5w_several_laws.specs.Turns.{AreKnown, AreOff, Entry, IsOff, all_then, flushed as flushed_entry}
 use Rattle.h5w_several_laws.proofs.FoldLemmas.{AreAcross, State, across_head, across_tail, flip_apart}
 use Rattle.h5w_session.specs.Sessions.{AllEndBy, Session, cutting_of}
@@ -60,7 +61,7 @@ pub record IsFolded (last : Super) (t end : Space) (us : List Used) (log : FileL
 
 -- ---- From the parts that had their turn to all
 
-across_cons : (e : Entry) (ds es : List Entry) → IsOff e ds → AreAcross ds es → AreAcross ds (e ∷ es)
+pub across_cons : (e : Entry) (ds es : List Entry) → IsOff e ds → AreAcross ds es → AreAcross ds (e ∷ es)
 across_cons e [] es off a = tt
 across_cons e (d ∷ ds) es off a = ((flip_apart d e off.0, a.0), across_cons e ds es off.1 a.1)
 
@@ -132,6 +133,13 @@ module _ (p : PartLaws) (log : FileLog) (us : List Used) (blocks : (u : Used) �
     | inr planned ↦ absurd (planned.some idle)
   ]
 
+  -- and its dataset waits for its turn, too
+  pub is_waiting : (root : Super) (t : Space) (all : List Write) (d : ℕ) (b : Begun) (s : Session) (e : Entry) → s.pending ≡ [] → IsIn root t us all log (seat d b [] s) e → Waits s.name (log_of d b log) all e.moment e.held
+  is_waiting root t all d b s e idle x = elim x.phase [
+    | inl done ↦ done.2
+    | inr planned ↦ absurd (planned.some idle)
+  ]
+
   -- it has no rows that wait
   still : (root last : Super) (t end : Space) (all : List Write) (done : List Seat) (d : ℕ) (b : Begun) (bs : List Begun) (s u : Session) (uu : List Session) (own most : ℕ) → s.pending ≡ [] → s.waits ≡ 0 → u ≡ told_of s last (bare end)
       → IsFolded last t end us log (seat d b all s ∷ done) (suc d) bs (all ++ all_pending uu) all uu most → IsFolded last t end us log done d (b ∷ bs) (all ++ (u.pending ++ all_pending uu)) all (u ∷ uu) (own + most)
@@ -163,15 +171,16 @@ module _ (p : PartLaws) (log : FileLog) (us : List Used) (blocks : (u : Used) �
   fold root last t end all done ds d (b ∷ bs) (s ∷ ss) (u ∷ uu) (e ∷ es) st in_done rest fits x =
       let i = rest.0.0 in
       let one = is_done root t all d b s e rest.0.1 i in
+      let waits = is_waiting root t all d b s e rest.0.1 i in
       elim x [
         | inl none ↦
-            let here : IsIn root t us all log (seat d b all s) e = record { name = i.name; early = i.early; going = i.going; each = i.each; phase = inl (one, rest.0.1) } in
+            let here : IsIn root t us all log (seat d b all s) e = record { name = i.name; early = i.early; going = i.going; each = i.each; phase = inl (one, rest.0.1, waits) } in
             still root last t end all done d b bs s u uu (load (cutting_of s) (log_of d b log)) (load_from (suc d) (map cutting_of ss) bs log) rest.0.1 none.0 none.1 (fold root last t end all (seat d b all s ∷ done) (e ∷ ds) (suc d) bs ss uu es (next_state (last_image log all) t root us ds e es st) (here, in_done) rest.1 fits none.2)
         | inr turn ↦
             let n = turn.0 in
             let flushes = turn.1 in
             let img = last_image log all in
-            let turned = turned_part p log us img root t all d b ds e es s n refl st blocks one i.name rest.0.1 i.going flushes.flushed flushes.ends fits.low in
+            let turned = turned_part p log us img root t all d b ds e es s n refl st blocks one i.name rest.0.1 i.going flushes.flushed flushes.ends fits.low waits in
             let ws = n.pending in
             let name = flushed_named (told_of s root t) n flushes.flushed in
             let none = flushed_none (told_of s root t) n flushes.flushed in

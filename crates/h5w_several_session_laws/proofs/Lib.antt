@@ -2,9 +2,11 @@ pub mod SeenLemmas
 pub mod SightLemmas
 pub mod ValidLemmas
 pub mod PassedLemmas
+pub mod RunLemmas
 pub mod TurnPartLemmas
 pub mod FoldPartLemmas
 pub mod ValidFlushLemmas
+pub mod CourseLemmas
 pub mod FlushAllLemmas
 pub mod GiveLemmas
 pub mod ShownLemmas

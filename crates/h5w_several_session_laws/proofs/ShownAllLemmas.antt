@@ -1,5 +1,5 @@
 -- What a session of several datasets is once its oldest pending piece became visible.
-use Rattle.std.proofs.Common.{◌≡◌, ℕ, suc, false, Bool, List, [], ◌∷◌, ◌++◌, refl, sym, ◌∙◌, ap, subst, inl, inr, arith, append_assoc}
+use Rattle.std.proofs.Common.{◌≡◌, ◌⊎◌, ℕ, suc, true, false, Bool, List, [], ◌∷◌, ◌++◌, refl, sym, ◌∙◌, ap, subst, inl, inr, arith, append_assoc}
 use Rattle.h5w_model.specs.Images.{image}
 use Rattle.h5w_model.specs.Findings.{Used}
 use Rattle.h5w_model.specs.Logs.{and_now, shows}
@@ -16,12 +16,14 @@ use Rattle.h5w_session.specs.Sessions.{AfterPiece, AllEndBy, Freed, Session, Set
 use Rattle.h5w_session.proofs.StandLemmas.{freed_keeps, freed_or_kept}
 use Rattle.h5w_session.specs.PartLaws.{PartLaws}
 use Rattle.h5w_several_session_laws.specs.Sessions.{AfterPieceOf, AreShown, Sessions, all_pending}
+use Rattle.h5w_several_session_laws.specs.Courses.{AreThrough, stands_of}
 use Rattle.h5w_several_session_laws.specs.Valid.{AreValidFrom}
-use Rattle.h5w_several_session_laws.specs.Standing.{AreStandingParts, IsDone, IsDue, IsStandingPart, StandsOn, and_then, last_image, most_in, rested}
+use Rattle.h5w_several_session_laws.specs.Standing.{AreStandingParts, HasRun, IsDone, IsDue, IsStandingPart, IsUnbegun, StandsOn, and_then, last_image, most_in, rested}
 use Rattle.h5w_several_session_laws.proofs.ShownLemmas.{calm_after, due_last, due_more, each_seen, left_is, part_behind, part_idle, shown_left, shown_log}
+use Rattle.h5w_several_session_laws.proofs.RunLemmas.{next_run, shown_run}
 use Rattle.h5w_several_session_laws.proofs.SightLemmas.{seen_shown}
 use Rattle.h5w_several_session_laws.proofs.TurnPartLemmas.{IsWithin, ends_back, last_joined, own_image}
-use Rattle.h5w_several_session_laws.proofs.FlushAllLemmas.{back_nil, front_nil}
+use Rattle.h5w_several_session_laws.proofs.FlushAllLemmas.{back_nil, front_nil, not_both}
 
 -- ---- The part whose piece it is
 
@@ -36,10 +38,19 @@ module _ (p : PartLaws) (root : Super) (t : Space) (us : List Used) (w : Write) 
         early = x.early;
         going = x.going;
         each = each_seen root t us left w log d b s.name done.own left done.runs.running.runs.goes.prefixed seen x.each;
+        run = elim (next_run root t w left log d b s e x.run (λ c. record { calm = inr c; own = done.own; seen = seen; runs = done.runs })
+            (each_seen root t us left w log d b s.name done.own left done.runs.running.runs.goes.prefixed seen x.each)) [
+              | inl h ↦ inl h
+              | inr u ↦ inr (record { calm = u.calm; some = u.some; first = u.first })
+            ];
         phase = inl (record { calm = inr calm; own = done.own; seen = seen; runs = done.runs });
       })
 
-  -- of a flush
+  -- of a flush: there is a file already
+  own_run : (d : ℕ) (b : Begun) (s : Session) (e : Entry) → s.flushing ≡ true → HasRun s.name (log_of d b log) (w ∷ left) e ⊎ IsUnbegun log (w ∷ left) s → HasRun s.name (log_of d b (shown_log w log)) left e
+  own_run d b s e busy (inl h) = shown_run s.name (log_of d b log) w left e h
+  own_run d b s e busy (inr u) = absurd (not_both s.flushing busy u.calm)
+
   due_part : (d : ℕ) (b : Begun) (s u : Session) (ws behind : List Write) (e : Entry) → s.pending ≡ w ∷ ws → AfterPiece s ws u → left ≡ ws ++ behind → IsOne (last_image log (w ∷ left)) t root us e → IsWithin t log → AllEndBy (most_in t log) left
       → IsStandingPart root t us (w ∷ left) log d b [] s behind e → IsDue root t us log d b [] s behind e → IsStandingPart root t us left (shown_log w log) d b [] u behind e
   due_part d b s u [] behind e is after cut one fits ends x due =
@@ -57,6 +68,7 @@ module _ (p : PartLaws) (root : Super) (t : Space) (us : List Used) (w : Write) 
         going = ap (λ (y : Session). y.stopped) settled.1 ∙ x.going;
         each = subst (λ (n : List ℕ). PrefixedEach n (log_of d b (shown_log w log))) (sym name)
             (each_seen root t us left w log d b s.name done.own behind (subst (λ (n : List ℕ). PrefixedEach n done.own) name done.runs.running.runs.goes.prefixed) done.seen x.each);
+        run = inl (subst (λ (n : List ℕ). HasRun n (log_of d b (shown_log w log)) left e) (sym name) (own_run d b s e due.flushing x.run));
         phase = inl (subst (λ (vs : List Write). IsDone root t vs (shown_log w log) d b u e) (sym cut) done);
       }
   due_part d b s u (y ∷ ws) behind e is after cut one fits ends x due =
@@ -67,6 +79,7 @@ module _ (p : PartLaws) (root : Super) (t : Space) (us : List Used) (w : Write) 
         early = x.early;
         going = x.going;
         each = each_seen root t us left w log d b s.name next.own [] (subst (λ (n : List ℕ). PrefixedEach n next.own) (sym name) next.runs.running.runs.goes.prefixed) next.seen x.each;
+        run = inl (own_run d b s e due.flushing x.run);
         phase = inr next;
       })
 
@@ -122,6 +135,7 @@ module _ (p : PartLaws) (root : Super) (t : Space) (us : List Used) (w : Write) 
         early = x.early;
         going = x.going;
         each = x.each;
+        run = x.run;
         phase = elim x.phase [
           | inl done ↦ inl done
           | inr due ↦ absurd (due.some idle)
@@ -150,6 +164,7 @@ module _ (p : PartLaws) (keeps : Bool) (root : Super) (t v : Space) (us : List U
     early = x.early;
     going = x.going;
     each = x.each;
+    run = x.run;
     phase = elim x.phase [
       | inl done ↦
           let r = done.runs.running in
@@ -195,6 +210,7 @@ freed_stands p S v keeps log freed idle st =
       ends = subst (λ (n : ℕ). AllEndBy n (pieces_in log.events ++ all_pending S.parts)) (sym most) st.ends;
       going = st.going;
       valid = st.valid;
+      course = st.course;
     }
 
 -- ---- The session
@@ -223,6 +239,7 @@ shown_stands p old new w log st x =
       ends = subst (λ (ws : List Write). AllEndBy (most_in old.places log) ws) more ends;
       going = st.going;
       valid = subst (λ (ws : List Write). AreValidFrom log.first log.start (names_of st.entries) ws) more (subst (λ (ws : List Write). AreValidFrom log.first log.start (names_of st.entries) (pieces_in log.events ++ ws)) is st.valid);
+      course = (subst (λ (ws : List Write). AreThrough log (stands_of 0 log.sets (names_of st.entries)) ws) is st.course).1;
     } in
     elim x.places [
       | inl free ↦ subst (λ (y : Sessions). StandsOn y next) (sym x.session) (freed_stands p mid new.places old.keeps next free.2 free.1 on)

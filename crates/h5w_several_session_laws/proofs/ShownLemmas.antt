@@ -27,6 +27,8 @@ use Rattle.h5w_several_session_laws.specs.Seen.{IsSeen}
 use Rattle.h5w_several_session_laws.specs.Sessions.{AreShown, all_pending}
 use Rattle.h5w_several_session_laws.specs.Standing.{IsDone, IsDue, IsOwed, IsStandingPart, and_then, most_in, rested}
 use Rattle.h5w_several_session_laws.proofs.PassedLemmas.{IsPassedBy}
+use Rattle.h5w_several_session_laws.proofs.FlushAllLemmas.{not_both}
+use Rattle.h5w_several_session_laws.proofs.RunLemmas.{next_run}
 use Rattle.h5w_several_session_laws.proofs.SightLemmas.{each_next, seen_own, seen_shown}
 use Rattle.h5w_several_session_laws.proofs.TurnPartLemmas.{IsWithin, Stretches, entry, own_image, step_done}
 
@@ -87,7 +89,8 @@ module _ (root : Super) (t : Space) (us : List Used) (left : List Write) (w : Wr
   part_behind before s behind e x = elim x.phase [
     | inl done ↦
         let next = part_told before s behind e done in
-        record { name = x.name; early = x.early; going = x.going; each = each_seen s.name next.own left next.runs.running.runs.goes.prefixed next.seen x.each; phase = inl next }
+        let each = each_seen s.name next.own left next.runs.running.runs.goes.prefixed next.seen x.each in
+        record { name = x.name; early = x.early; going = x.going; each = each; run = next_run root t w left log d b s e x.run (λ calm. next) each; phase = inl next }
     | inr due ↦
         let seen = seen_shown log d b due.own w before due.seen in
         let name = ap (λ (y : Session). y.name) due.told in
@@ -97,6 +100,7 @@ module _ (root : Super) (t : Space) (us : List Used) (left : List Write) (w : Wr
           early = x.early;
           going = x.going;
           each = each_seen s.name due.own before prefixed seen x.each;
+          run = next_run root t w left log d b s e x.run (λ calm. absurd (not_both s.flushing due.flushing calm)) (each_seen s.name due.own before prefixed seen x.each);
           phase = inr (record {
             some = due.some;
             flushing = due.flushing;
@@ -119,7 +123,8 @@ module _ (root : Super) (t : Space) (us : List Used) (left : List Write) (w : Wr
   part_idle s behind e idle x = elim x.phase [
     | inl done ↦
         let next = part_told [] s behind e done in
-        record { name = x.name; early = x.early; going = x.going; each = each_seen s.name next.own left next.runs.running.runs.goes.prefixed next.seen x.each; phase = inl next }
+        let each = each_seen s.name next.own left next.runs.running.runs.goes.prefixed next.seen x.each in
+        record { name = x.name; early = x.early; going = x.going; each = each; run = next_run root t w left log d b s e x.run (λ calm. next) each; phase = inl next }
     | inr due ↦ absurd (due.some idle)
   ]
 

@@ -55,7 +55,7 @@ named_at [] d s is = absurd cc
 named_at (x ∷ ss) zero s is = ap (λ (y : Session). Some y.name) (some_is x s is)
 named_at (x ∷ ss) (suc d) s is = named_at ss d s is
 
-many_names : (ss : List Session) → length (names_in ss) ≡ length ss
+pub many_names : (ss : List Session) → length (names_in ss) ≡ length ss
 many_names [] = refl
 many_names (s ∷ ss) = ap suc (many_names ss)
 

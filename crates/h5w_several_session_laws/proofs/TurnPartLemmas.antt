@@ -28,7 +28,10 @@ use Rattle.h5w_flush_laws.specs.Knowledge.{HeldMissed, Holding}
 use Rattle.h5w_flush_laws.specs.Parts.{IsFlush, Parts, early_of, flushed_to, pieces_of}
 use Rattle.h5w_flush_laws.proofs.FlushLaws.{flush_safe}
 use Rattle.h5w_several_laws.specs.Beside.{own_of, whole_of, with_root}
+use Rattle.h5w_several_laws.specs.Dues.{Waits}
 use Rattle.h5w_several_laws.specs.Turns.{AreKnown, AreOff, ArePlans, Entry, IsOff, IsOne, IsTurn, all_then, flushed as flushed_entry, helds, owns, part_of, super_then, then_as, told}
+use Rattle.h5w_several_laws.specs.Between.{IsBetween}
+use Rattle.h5w_several_laws.proofs.BetweenLemmas.{turn_between}
 use Rattle.h5w_several_laws.proofs.TurnLemmas.{from_whole, told_file, told_holding, told_live, turn_known}
 use Rattle.h5w_several_laws.proofs.FoldLemmas.{State, across_head, across_tail, all_off, known_append, off_append, split_known, split_plans, turned}
 use Rattle.h5w_session.specs.Loads.{first_end_of}
@@ -43,6 +46,7 @@ use Rattle.h5w_several_session_laws.specs.Began.{IsAmple, began_end}
 use Rattle.h5w_several_session_laws.specs.Seen.{IsSeen}
 use Rattle.h5w_several_session_laws.specs.Standing.{IsDone, IsOwed, last_image, most_in, rested}
 use Rattle.h5w_several_session_laws.proofs.PassedLemmas.{ArePassedBy, IsPassedBy, all_passed, passed_joined}
+use Rattle.h5w_several_session_laws.proofs.RunLemmas.{HasPlanned, more_waits, none_waits, sight_image}
 use Rattle.h5w_several_session_laws.proofs.SightLemmas.{IsSettled, seen_told}
 use Rattle.h5w_several_session_laws.proofs.SeenLemmas.{all_flushed}
 
@@ -139,6 +143,7 @@ pub record IsPlannedPart (root : Super) (t : Space) (us : List Used) (all : List
   pub moment_is : e.moment ≡ moved_to root (with_root us moment)
   pub behind : List Write
   pub cut : all ≡ (seat.before ++ seat.part.pending) ++ behind
+  pub whole : HasPlanned seat.part.name (log_of seat.number seat.begun log) seat.before seat.part.pending behind e
   pub owed : IsOwed (image (image_now own) seat.part.pending) seat.part.name (with_root us moment) e.held behind root
 
 pub record IsIn (root : Super) (t : Space) (us : List Used) (all : List Write) (log : FileLog) (seat : Seat) (e : Entry) : Type 0 where
@@ -146,7 +151,7 @@ pub record IsIn (root : Super) (t : Space) (us : List Used) (all : List Write) (
   pub early : seat.part.early ≡ 0
   pub going : seat.part.stopped ≡ false
   pub each : PrefixedEach seat.part.name (log_of seat.number seat.begun log)
-  pub phase : (IsDone root t all log seat.number seat.begun seat.part e × (seat.part.pending ≡ [])) ⊎ IsPlannedPart root t us all log seat e
+  pub phase : (IsDone root t all log seat.number seat.begun seat.part e × (seat.part.pending ≡ []) × Waits seat.part.name (log_of seat.number seat.begun log) all e.moment e.held) ⊎ IsPlannedPart root t us all log seat e
 
 abbrev pub AllIn : Super → Space → List Used → List Write → FileLog → List Seat → List Entry → Type 0
 AllIn root t us all log [] [] = Unit {0}
@@ -204,6 +209,10 @@ module _ (p : PartLaws) (log : FileLog) (us : List Used) where
       let before = ap (λ (i : List ℕ). image (image i seat.part.pending) x.behind) (own_image log seat.number seat.begun x.own seat.before x.seen) in
       let here : img ≡ image first x.behind =
       is ∙ ap (last_image log) x.cut ∙ last_joined log (seat.before ++ seat.part.pending) x.behind ∙ ap (λ (i : List ℕ). image i x.behind) (last_joined log seat.before seat.part.pending) ∙ sym before in
+      let sight : Log = log_of seat.number seat.begun log in
+      let own : List Write = seat.before ++ seat.part.pending in
+      let seen_here : img ≡ image (image (image_now sight) own) x.behind =
+      is ∙ ap (last_image log) x.cut ∙ sym (sight_image log seat.number seat.begun (own ++ x.behind)) ∙ image-append (image_now sight) own x.behind in
       let plan = subst (λ (i : List ℕ). Plan i (moved_to root m) e.held ws (moved_to to m) e.held) here (subst (λ (y : Moment). Plan img y e.held ws (moved_to to y) e.held) x.moment_is by.plan) in
       let passed = subst (λ (i : List ℕ). ArePassed i seat.part.name (moved_to root m) ws) here (subst (λ (y : Moment). ArePassed img seat.part.name y ws) x.moment_is (subst (λ (n : List ℕ). ArePassed img n e.moment ws) name by.passed)) in
       record {
@@ -219,6 +228,16 @@ module _ (p : PartLaws) (log : FileLog) (us : List Used) where
         moment_is = ap (moved_to to) x.moment_is;
         behind = x.behind ++ ws;
         cut = ap (λ (vs : List Write). vs ++ ws) x.cut ∙ append_assoc (seat.before ++ seat.part.pending) x.behind ws;
+        whole = record {
+          moment = x.whole.moment;
+          held = x.whole.held;
+          waits = x.whole.waits;
+          middle = x.whole.middle;
+          now = x.whole.now;
+          flush = x.whole.flush;
+          values = x.whole.values;
+          plan = plans_join (image (image_now sight) own) x.whole.middle e.moment (moved_to to e.moment) x.whole.now e.held e.held x.behind ws x.whole.plan (subst (λ (i : List ℕ). Plan i e.moment e.held ws (moved_to to e.moment) e.held) seen_here by.plan);
+        };
         owed = record {
           file = x.owed.file;
           plan = plans_join first m (moved_to root m) (moved_to to m) e.held e.held e.held x.behind ws x.owed.plan plan;
@@ -234,7 +253,14 @@ module _ (p : PartLaws) (log : FileLog) (us : List Used) where
     going = x.going;
     each = x.each;
     phase = elim x.phase [
-      | inl done ↦ inl (step_done img ws all root to t u seat.number seat.begun seat.part e is by x.name x.early stretch done.0, done.1)
+      | inl done ↦
+          let sight : Log = log_of seat.number seat.begun log in
+          let here : img ≡ image (image_now sight) all = is ∙ sym (sight_image log seat.number seat.begun all) in
+          inl (
+            step_done img ws all root to t u seat.number seat.begun seat.part e is by x.name x.early stretch done.0,
+            done.1,
+            more_waits seat.part.name sight all ws e.moment (moved_to to e.moment) e.held e.held done.2 (subst (λ (i : List ℕ). Plan i e.moment e.held ws (moved_to to e.moment) e.held) here by.plan),
+          )
       | inr planned ↦ inr (step_planned img ws all root to t u seat e is by x.name stretch planned)
     ];
   }
@@ -263,9 +289,12 @@ module _ (p : PartLaws) (log : FileLog) (us : List Used) where
     pub flush : Flush img (told e.moment (ds ++ es)) held n.pending (flushed_to (told e.moment (ds ++ es)) parts) parts.behind
     pub others : AreKnown img t e.moment.super e.moment.root (ds ++ es)
     pub apart : AreOff (ds ++ es)
+    -- and in its middle
+    pub between : (ws vs : List Write) → ws ++ vs ≡ n.pending → IsBetween img e (ds ++ es) parts ws vs
 
   module _ (img : List ℕ) (root : Super) (t : Space) (all : List Write) (d : ℕ) (b : Begun) (ds : List Entry) (e : Entry) (es : List Entry) (s n : Session) (is : img ≡ last_image log all) (st : State img t root us ds (e ∷ es))
-      (blocks : (u : Used) → Among u us → u.chunk ≡ false) (x : IsDone root t all log d b s e) (name : e.name ≡ s.name) (idle : s.pending ≡ []) (going : s.stopped ≡ false) (flushes : HasFlushed (told_of s root t) n) (bounded : AllEndBy n.places.end n.pending) (low : IsAmple t log) where
+      (blocks : (u : Used) → Among u us → u.chunk ≡ false) (x : IsDone root t all log d b s e) (name : e.name ≡ s.name) (idle : s.pending ≡ []) (going : s.stopped ≡ false) (flushes : HasFlushed (told_of s root t) n) (bounded : AllEndBy n.places.end n.pending) (low : IsAmple t log)
+      (waits : Waits s.name (log_of d b log) all e.moment e.held) where
     abbrev os : List Entry
     os = ds ++ es
 
@@ -444,6 +473,23 @@ module _ (p : PartLaws) (log : FileLog) (us : List Used) where
         (subst (λ (k : List ℕ). Represents (image img n.pending) k (with_root us moment)) (name ∙ sym flushed_name)
         (subst (λ (m : Moment). Represents (image img n.pending) e.name m) (sym own_moment) own))
 
+    -- what the dataset sees of it
+    whole : HasPlanned n.name (log_of d b log) all n.pending [] next
+    whole =
+        let there : img ≡ image (image_now (log_of d b log)) all = is ∙ sym (sight_image log d b all) in
+        let own = subst (λ (ws : List Write). Flush img e.moment e.held ws next.moment f.parts.behind) pieces turn.flush in
+        let none : n.waits ≡ 0 = (flushed_none (told_of s root t) n flushes).0 in
+        record {
+          moment = e.moment;
+          held = e.held;
+          waits = subst (λ (k : List ℕ). Waits k (log_of d b log) all e.moment e.held) (sym flushed_name) waits;
+          middle = next.moment;
+          now = f.parts.behind;
+          flush = subst (λ (i : List ℕ). Flush i e.moment e.held n.pending next.moment f.parts.behind) there own;
+          values = ap (λ (m : Moment). (flushed_to m f.parts).values) (sym after) ∙ ap (λ (m : Moment). m.values) (sym f.runs.after) ∙ none_waits n n.pending (and_now (plans (length n.pending)) x.own) f.runs.running none ∙ x.seen.appended;
+          plan = (refl, refl);
+        }
+
     planned : IsPlannedPart n.root n.places us (all ++ n.pending) log (record { number = d; begun = b; before = all; part = n }) next
     planned =
         let r = x.runs.running in
@@ -460,6 +506,7 @@ module _ (p : PartLaws) (log : FileLog) (us : List Used) where
           moment_is = moment_is;
           behind = [];
           cut = sym (append-nil (all ++ n.pending));
+          whole = whole;
           owed = record { file = known_file; plan = (sym (own_moment ∙ moment_is), refl); passed = tt };
         }
 
@@ -482,6 +529,7 @@ module _ (p : PartLaws) (log : FileLog) (us : List Used) where
           flush = told_flush;
           others = others;
           apart = apart;
+          between = λ ws vs same. turn_between img e os f.parts t n.places ws vs own_one others off apart (λ u a. blocks u (subst (λ (vs : List Used). Among u vs) one.root_is a)) planned_flush missed (same ∙ sym pieces);
         }
       where
         known_then : AreKnown (image img n.pending) n.places n.root us (all_then n.root os)

@@ -23,7 +23,7 @@ use Rattle.h5w_several_session_laws.specs.Standing.{AreStandingParts, last_image
 use Rattle.h5w_several_session_laws.specs.Valid.{names_in}
 use Rattle.h5w_several_session_laws.proofs.PassedLemmas.{beside_told}
 use Rattle.h5w_several_session_laws.proofs.TurnPartLemmas.{IsTurned, IsWithin, flushed_named, last_joined, turned_part, within_then}
-use Rattle.h5w_several_session_laws.proofs.FoldPartLemmas.{AllOut, AllRest, is_done, next_state, rest_steps}
+use Rattle.h5w_several_session_laws.proofs.FoldPartLemmas.{AllOut, AllRest, is_done, is_waiting, next_state, rest_steps}
 use Rattle.h5w_several_session_laws.proofs.ValidLemmas.{known_there, off_clear, stays_joined}
 
 -- ---- One part
@@ -54,6 +54,7 @@ module _ (p : PartLaws) (log : FileLog) (us : List Used) (blocks : (u : Used) �
   fold_valid root last t end all ds d (b ∷ bs) (s ∷ ss) (u ∷ uu) (e ∷ es) st rest fits x =
       let i = rest.0.0 in
       let one = is_done p log us blocks root t all d b s e rest.0.1 i in
+      let waits = is_waiting p log us blocks root t all d b s e rest.0.1 i in
       let img = last_image log all in
       let names = onto (names_of ds) (e.name ∷ names_of es) in
       elim x [
@@ -64,7 +65,7 @@ module _ (p : PartLaws) (log : FileLog) (us : List Used) (blocks : (u : Used) �
         | inr turn ↦
             let n = turn.0 in
             let flushes = turn.1 in
-            let turned = turned_part p log us img root t all d b ds e es s n refl st blocks one i.name rest.0.1 i.going flushes.flushed flushes.ends fits.low in
+            let turned = turned_part p log us img root t all d b ds e es s n refl st blocks one i.name rest.0.1 i.going flushes.flushed flushes.ends fits.low waits in
             let ws = n.pending in
             let next = flushed_entry e turned.parts in
             let state = subst (λ (y : List ℕ). State y n.places n.root us (next ∷ all_then n.root ds) (all_then n.root es)) (sym (last_joined log all ws)) turned.state in

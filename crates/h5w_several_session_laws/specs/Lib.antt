@@ -2,6 +2,7 @@ pub mod Began
 pub mod Seen
 pub mod Sessions
 pub mod Valid
+pub mod Courses
 pub mod Standing
 pub mod Together
 pub mod Laws

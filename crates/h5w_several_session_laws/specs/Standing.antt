@@ -1,10 +1,10 @@
 -- Of which logs of a file a session of several datasets can be the session.
-use Rattle.std.specs.Prelude.{◌≡◌, ◌≢◌, ◌⊎◌, ℕ, suc, ◌≤◌, max, true, false, List, [], ◌∷◌, ◌++◌}
+use Rattle.std.specs.Prelude.{◌≡◌, ◌≢◌, ◌⊎◌, ℕ, suc, ◌+◌, ◌≤◌, max, true, false, List, [], ◌∷◌, ◌++◌, length}
 use Rattle.h5w_model.specs.Images.{image}
 use Rattle.h5w_model.specs.Findings.{Used}
 use Rattle.h5w_model.specs.Logs.{Log}
 use Rattle.h5w_model.specs.Prefixed.{PrefixedEach}
-use Rattle.h5w_model.specs.Several.{Begun, FileLog, Happened, log_of, pieces_in}
+use Rattle.h5w_model.specs.Several.{Begun, FileLog, Happened, log_of, pieces_in, shown_in}
 use Rattle.h5w_model.specs.declared.piece.Write.{Write}
 use Rattle.h5w_model.specs.declared.root.Super.{Super}
 use Rattle.h5w_visits.specs.Ranges.{Among}
@@ -13,11 +13,13 @@ use Rattle.h5w_steps.specs.Moments.{Moment, Represents}
 use Rattle.h5w_steps.specs.Logs.{image_now}
 use Rattle.h5w_steps.specs.Plans.{Plan}
 use Rattle.h5w_several_laws.specs.Beside.{with_root}
+use Rattle.h5w_several_laws.specs.Dues.{RunsTo}
 use Rattle.h5w_several_laws.specs.Together.{names_of}
 use Rattle.h5w_several_laws.specs.Turns.{AreKnown, AreOff, Entry}
 use Rattle.h5w_session.specs.Sessions.{AllEndBy, Session}
 use Rattle.h5w_session.specs.PartLaws.{ArePassed, RunsAs}
 use Rattle.h5w_session.specs.Told.{moved_to, told_of}
+use Rattle.h5w_several_session_laws.specs.Courses.{AreThrough, stands_of}
 use Rattle.h5w_several_session_laws.specs.Began.{IsAmple, began_end}
 use Rattle.h5w_several_session_laws.specs.Seen.{IsSeen}
 use Rattle.h5w_several_session_laws.specs.Valid.{AreValidFrom}
@@ -70,12 +72,27 @@ pub record IsDue (root : Super) (t : Space) (us : List Used) (log : FileLog) (d 
   pub moment_is : e.moment ≡ moved_to root (with_root us moment)
   pub owed : IsOwed (image (image_now own) s.pending) s.name (with_root us moment) e.held behind root
 
+-- ---- What a dataset sees
+
+-- What it sees of the file has come to a moment from which the pieces that are left lead to that of the entry; readers may hold what is held
+-- then. The rows that these pieces bring are due with one of them.
+pub record HasRun (name : List ℕ) (log : Log) (left : List Write) (e : Entry) : Type 0 where
+  pub due : ℕ
+  pub runs : RunsTo name log due left e.moment e.held
+
+-- no reader finds a file yet: the pieces that are left lead to the first position
+pub record IsUnbegun (log : FileLog) (left : List Write) (s : Session) : Type 0 where
+  pub calm : s.flushing ≡ false
+  pub some : left ≢ []
+  pub first : shown_in log.events + length left ≡ log.first
+
 -- A part of a session that goes on; it wrote no row early.
 pub record IsStandingPart (root : Super) (t : Space) (us : List Used) (left : List Write) (log : FileLog) (d : ℕ) (b : Begun) (before : List Write) (s : Session) (behind : List Write) (e : Entry) : Type 0 where
   pub name : e.name ≡ s.name
   pub early : s.early ≡ 0
   pub going : s.stopped ≡ false
   pub each : PrefixedEach s.name (log_of d b log)
+  pub run : HasRun s.name (log_of d b log) left e ⊎ IsUnbegun log left s
   pub phase : IsDone root t left log d b s e ⊎ IsDue root t us log d b before s behind e
 
 -- all parts, from number d on, behind the pieces of those before
@@ -106,6 +123,8 @@ pub record StandsOn (S : Sessions) (log : FileLog) : Type 0 where
   pub going : S.stopped ≡ false
   -- no finding applies to all names together, at no position that was and at none that is to come
   pub valid : AreValidFrom log.first log.start (names_of entries) (pieces_in log.events ++ all_pending S.parts)
+  -- before each of the pieces that are pending what readers of one dataset may hold is off what another has
+  pub course : AreThrough log (stands_of 0 log.sets (names_of entries)) (all_pending S.parts)
 
 -- The session is that of this log, or it is what a stop or a close made of one that is: what was pending may have been dropped.
 pub record StandsAll (S : Sessions) (log : FileLog) : Type 0 where

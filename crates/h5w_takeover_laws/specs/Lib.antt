@@ -1,0 +1,3 @@
+pub mod Refused
+pub mod Restarts
+pub mod Several
