@@ -27,6 +27,8 @@ mod restless;
 #[cfg(test)]
 mod rows;
 #[cfg(test)]
+mod scripts;
+#[cfg(test)]
 mod several;
 #[cfg(test)]
 mod steps;

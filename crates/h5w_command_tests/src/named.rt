@@ -103,7 +103,7 @@ $ check f --name a --name b
 $ poll f --name a,b
 => error link none
 = 4
-$ play --type u8 --chunk 1 --name a,b
+$ stop --type u8 --chunk 1 --name a,b
 flush
 => error usage
 = 2

@@ -10,6 +10,7 @@ use crate::new_files::NEW_ROWS;
 use crate::reopened::REOPENED_ROWS;
 use crate::repacks::REPACK_ROWS;
 use crate::rows::ROWS;
+use crate::scripts::SCRIPT_ROWS;
 use crate::several::SEVERAL_ROWS;
 use crate::stops::STOP_ROWS;
 use crate::takes::TAKE_ROWS;
@@ -308,6 +309,7 @@ fn rows_are_answered(rt: HostRuntime) -> Result<(), Fail> {
         APPEND_ROWS,
         EARLY_ROWS,
         SEVERAL_ROWS,
+        SCRIPT_ROWS,
         REOPENED_ROWS,
         REPACK_ROWS,
         STOP_ROWS,

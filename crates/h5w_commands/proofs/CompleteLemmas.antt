@@ -1,5 +1,5 @@
 -- Jobs that end only when all is done, or for want of memory.
-use Rattle.std.proofs.Common.{ℕ, List, [], ◌∷◌, Option, Some, None}
+use Rattle.std.proofs.Common.{ℕ, List, Option, Some, None}
 use Rattle.h5w_text.specs.Streams.{SourceView, SinkView}
 use Rattle.h5w_words.specs.declared.job.Job.{Job}
 use Rattle.h5w_words.specs.declared.job.Job.TheVariants.{Play, New, Check, Poll, Clear, Make, Append, Live, Stop, Repack}
@@ -25,7 +25,7 @@ use Rattle.h5w_text.specs.declared.status.Status.{Status}
 
 -- a job
 pub does_whole : (job : Job) (status : Status) (s t : SourceView) (k l : SinkView) (v w : DiskView) → DoesInside job status s t k l v w → DoesWhole job status s t k l v w
-does_whole (Play options attempts) status s t k l v w does = plays_whole (spelling_for (options.name ∷ []) options) (state_for (options.name ∷ []) options attempts) status s t k l does.0
+does_whole (Play names options attempts) status s t k l v w does = plays_whole (spelling_for names options) (state_for names options attempts) status s t k l does.0
 does_whole (New file names options) status s t k l v w does = creates_whole file (files_of names options) status does.1
 does_whole (Check file names) status s t k l v w does = checks_whole file names status does.1
 does_whole (Poll file name times attempts values) status s t k l v w does = polls_whole file name times attempts values status does.1
@@ -43,7 +43,7 @@ ended_whole job (ends.Image worn) s t k l v w does = absurd does
 -- a run, by its words
 pub ran_whole : (o : Option Job) (ended : Ended) (s t : SourceView) (k l : SinkView) (v w : DiskView) → RanInside o ended s t k l v w → RanWhole o ended s t k l v w
 ran_whole None ended s t k l v w ran = tt
-ran_whole (Some (Play options attempts)) ended s t k l v w ran = ended_whole (Play options attempts) ended s t k l v w ran
+ran_whole (Some (Play names options attempts)) ended s t k l v w ran = ended_whole (Play names options attempts) ended s t k l v w ran
 ran_whole (Some (New file names options)) ended s t k l v w ran = ended_whole (New file names options) ended s t k l v w ran
 ran_whole (Some (Check file names)) ended s t k l v w ran = ended_whole (Check file names) ended s t k l v w ran
 ran_whole (Some (Poll file name times attempts values)) ended s t k l v w ran = ended_whole (Poll file name times attempts values) ended s t k l v w ran

@@ -85,7 +85,7 @@ stop_tells o status s t h = record { answer = h.answer; text = h.text; comes = s
 -- ---- A job, and a run by its words
 
 pub does_told : (job : Job) (status : Status) (s t : SourceView) (k l : SinkView) (v w : DiskView) → DoesInside job status s t k l v w → Does job status s t k l v w
-does_told (Play options attempts) status s t k l v w does = does
+does_told (Play names options attempts) status s t k l v w does = does
 does_told (New file names options) status s t k l v w does = does
 does_told (Check file names) status s t k l v w does = does
 does_told (Poll file name times attempts values) status s t k l v w does = does
@@ -102,7 +102,7 @@ ended_told job (ends.Image worn) s t k l v w does = absurd does
 
 pub ran_told : (o : Option Job) (ended : Ended) (s t : SourceView) (k l : SinkView) (v w : DiskView) → RanInside o ended s t k l v w → Ran o ended s t k l v w
 ran_told None ended s t k l v w ran = ran
-ran_told (Some (Play options attempts)) ended s t k l v w ran = ended_told (Play options attempts) ended s t k l v w ran
+ran_told (Some (Play names options attempts)) ended s t k l v w ran = ended_told (Play names options attempts) ended s t k l v w ran
 ran_told (Some (New file names options)) ended s t k l v w ran = ended_told (New file names options) ended s t k l v w ran
 ran_told (Some (Check file names)) ended s t k l v w ran = ended_told (Check file names) ended s t k l v w ran
 ran_told (Some (Poll file name times attempts values)) ended s t k l v w ran = ended_told (Poll file name times attempts values) ended s t k l v w ran

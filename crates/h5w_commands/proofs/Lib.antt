@@ -1,3 +1,4 @@
+pub mod PlayLemmas
 pub mod TellLemmas
 pub mod CompleteLemmas
 pub mod MakeLemmas

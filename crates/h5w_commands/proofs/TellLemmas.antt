@@ -1,5 +1,5 @@
 -- What a run leaves, by its words.
-use Rattle.std.proofs.Common.{ℕ, ◌≡◌, ◌⊎◌, [], ◌∷◌, Option, Some, None, refl, ap, ◌∙◌, subst, sym, inl, inr}
+use Rattle.std.proofs.Common.{ℕ, ◌≡◌, ◌⊎◌, Option, Some, None, refl, ap, ◌∙◌, subst, sym, inl, inr}
 use Rattle.h5w_text.specs.Streams.{SourceView, SinkView}
 use Rattle.h5w_text.specs.Errors.{error_text}
 use Rattle.h5w_text.specs.declared.error.ErrorLine.TheVariants as errors
@@ -33,7 +33,7 @@ use Rattle.h5w_playing.proofs.EndLemmas.{plays_nothing}
 -- memory was refused before the words were known
 pub ran_wanting : (o : Option Job) (status : Status) (s : SourceView) (k l : SinkView) (v : DiskView) → Said (error_text errors.Memory) Memory status k l → RanInside o (outcomes.With status) s s k l v v
 ran_wanting None status s k l v said = record { unread = refl; disk = refl; told = inr said }
-ran_wanting (Some (Play options attempts)) status s k l v said = (plays_nothing (spelling_for (options.name ∷ []) options) (state_for (options.name ∷ []) options attempts) status s k l said, refl)
+ran_wanting (Some (Play names options attempts)) status s k l v said = (plays_nothing (spelling_for names options) (state_for names options attempts) status s k l said, refl)
 ran_wanting (Some (New file names options)) status s k l v said = (refl, creates_wanted file (files_of names options) status said)
 ran_wanting (Some (Check file names)) status s k l v said = (refl, checks_nothing file names status said)
 ran_wanting (Some (Poll file name times attempts values)) status s k l v said = (refl, polls_nothing file name times attempts values status said)
@@ -49,7 +49,7 @@ pub ran_outside : (o : Option Job) (status : Status) (s : SourceView) (k l : Sin
 ran_outside o status s k l v e said = subst (λ (x : Option Job). RanInside x (outcomes.With status) s s k l v v) (sym e) (record { unread = refl; disk = refl; told = inl said })
 
 does_run : (job : Job) (status : Status) (s t : SourceView) (k l : SinkView) (v w : DiskView) → DoesInside job status s t k l v w → RanInside (Some job) (outcomes.With status) s t k l v w
-does_run (Play options attempts) status s t k l v w does = does
+does_run (Play names options attempts) status s t k l v w does = does
 does_run (New file names options) status s t k l v w does = does
 does_run (Check file names) status s t k l v w does = does
 does_run (Poll file name times attempts values) status s t k l v w does = does

@@ -1,5 +1,5 @@
 -- What a run of the program leaves, by its words.
-use Rattle.std.specs.Prelude.{◌≡◌, [], ◌∷◌, Option, Some, None}
+use Rattle.std.specs.Prelude.{◌≡◌, Option, Some, None}
 use Rattle.h5w_image.specs.View.{DiskView}
 use Rattle.h5w_reader.specs.Readers.{reader_rules}
 use Rattle.h5w_text.specs.Streams.{SourceView, SinkView}
@@ -35,7 +35,7 @@ IsPlain job = Unit {0}
 -- What a job that waits for nobody leaves of source, sink and disk. A script leaves the disk as it is, be it of readers
 -- or of a writer alone; of the commands on files an append alone reads, and the making of a file in memory leaves both.
 abbrev pub Does : Job → Status → SourceView → SourceView → SinkView → SinkView → DiskView → DiskView → Type 0
-Does (Play options attempts) status s t k l v w = PlayEnds (options.name ∷ []) options attempts status s t k l × (w ≡ v)
+Does (Play names options attempts) status s t k l v w = PlayEnds names options attempts status s t k l × (w ≡ v)
 Does (New file names options) status s t k l v w = (t ≡ s) × CreateEnds file (files_of names options) v w status k l
 Does (Check file names) status s t k l v w = (t ≡ s) × CheckEnds file names v w status k l
 Does (Poll file name times attempts values) status s t k l v w = (t ≡ s) × PollEnds file name times attempts values v w status k l
@@ -48,7 +48,7 @@ Does (Repack file to names limit ranges) status s t k l v w = (t ≡ s) × Repac
 
 -- The same, with what an append and a script of a writer alone leave told by the state of their session, too.
 abbrev pub DoesInside : Job → Status → SourceView → SourceView → SinkView → SinkView → DiskView → DiskView → Type 0
-DoesInside (Play options attempts) status s t k l v w = PlayEnds (options.name ∷ []) options attempts status s t k l × (w ≡ v)
+DoesInside (Play names options attempts) status s t k l v w = PlayEnds names options attempts status s t k l × (w ≡ v)
 DoesInside (New file names options) status s t k l v w = (t ≡ s) × CreateEnds file (files_of names options) v w status k l
 DoesInside (Check file names) status s t k l v w = (t ≡ s) × CheckEnds file names v w status k l
 DoesInside (Poll file name times attempts values) status s t k l v w = (t ≡ s) × PollEnds file name times attempts values v w status k l
@@ -84,7 +84,7 @@ RanInside (Some job) ended s t k l v w = EndsWith (λ status. DoesInside job sta
 
 -- a job is done, or memory is wanted, where nothing else stands in its way; the file of an append may have no place, nor that of a repack
 abbrev pub DoesWhole : Job → Status → SourceView → SourceView → SinkView → SinkView → DiskView → DiskView → Type 0
-DoesWhole (Play options attempts) status s t k l v w = PlayEndsWell (options.name ∷ []) options attempts status s t k l
+DoesWhole (Play names options attempts) status s t k l v w = PlayEndsWell names options attempts status s t k l
 DoesWhole (New file names options) status s t k l v w = EndsWell (end_given (end_of (files_of names options))) file v w status k l
 DoesWhole (Check file names) status s t k l v w = EndsWell (check_of names) file v w status k l
 DoesWhole (Poll file name times attempts values) status s t k l v w = EndsWell (poll_of (reader_rules name attempts) values) file v w status k l

@@ -7,6 +7,7 @@ mod disk;
 mod make;
 mod new;
 mod plain;
+mod play;
 mod program;
 mod stop;
 mod streams;

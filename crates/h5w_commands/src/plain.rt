@@ -6,10 +6,10 @@ ghost use Rattle.h5w_words.specs.Limits.{IsWithinLimits};
 use crate::append::append;
 use crate::make::make;
 use crate::new::new;
+use crate::play::play;
 use crate::stop::stop;
 use h5w_files::{check, clear, poll};
 use h5w_image::Disk;
-use h5w_playing::play_alone;
 use h5w_repacking::repack;
 use h5w_text::{Sink, Source, Status};
 use h5w_words::Job;
@@ -32,7 +32,11 @@ pub fn plain<S: Source, K: Sink, D: Disk>(
     ensures source { SameSource (S.view source.old) (S.view source.new) }
 {
     match job {
-        Job::Play { options, attempts } => play_alone(alloc, options, *attempts, source, sink),
+        Job::Play {
+            names,
+            options,
+            attempts,
+        } => play(alloc, names, options, *attempts, source, sink),
         Job::New {
             file,
             names,

@@ -1,0 +1,6 @@
+pub use Rattle.h5w_several_scripts.specs.Scripts
+pub use Rattle.h5w_playing.specs.Lines
+pub use Rattle.h5w_several_core.specs.Worlds
+pub use Rattle.h5w_playing.specs.Plays
+pub use Rattle.h5w_playing.specs.Starts
+pub mod Sets
