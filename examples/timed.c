@@ -60,7 +60,7 @@ int main(int argc, char **argv)
     how.columns = how.width = PIXELS;
     how.fixed = 1;
     h5swmr_writer *writer;
-    if (is_refused("create", h5swmr_create_several(&writer, argv[1], NAMES, DATASETS, &how)))
+    if (is_refused("create", h5swmr_create_several(&writer, argv[1], NAMES, DATASETS, &how, 1)))
         return 1;
     h5swmr_keep_retired(writer); /* HDF5's own library may read beside */
     bool is_done = record(writer, argc > 2 ? atol(argv[2]) : 20);

@@ -28,6 +28,7 @@ CROSSES = {
     "&mut H5wPlace": ["h5w_place *"],
     "&mut H5wShape": ["h5w_shape *"],
     "&H5wOptions": ["const h5w_options *"],
+    "&[H5wOptions]": ["const h5w_options *", "size_t"],
     "H5wTold": ["h5w_told"],
     "u8": ["uint8_t"],
     "u32": ["uint32_t"],

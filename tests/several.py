@@ -94,6 +94,16 @@ def seen(file, kind, held, columns):
     return found
 
 
+def differs(file, kind, held, columns):
+    """What h5diff finds between a file and one that h5py makes of these values."""
+    other = f"{file}.other"
+    with h5py.File(other, "w", libver="latest") as opened:
+        for name, values in held.items():
+            rows = table(values, columns)
+            opened.create_dataset(name, shape_of(len(rows), columns), maxshape=maximums_of(columns), chunks=True, dtype=numpy_type(kind))[...] = rows
+    return of("h5diff", run(["h5diff", file, other]), "")
+
+
 def polled(file, held, columns):
     """What the program reads otherwise of each dataset by itself, and of all in one check."""
     found = []
@@ -123,7 +133,7 @@ def ours(folder, kind, names, columns):
             opened[name].resize(opened[name].shape[0] + 9, axis=0)
             opened[name][-9:] = table(more, columns)
             held[name] += more
-    return found + seen(file, kind, held, columns) + polled(file, held, columns)
+    return found + seen(file, kind, held, columns) + polled(file, held, columns) + differs(file, kind, held, columns)
 
 
 # ---- Appends by several names

@@ -16,6 +16,7 @@ from new_files import in_words
 # (./h5swmr looks at all sources first, and here the program runs thousands of times)
 PROGRAM = f"{TOP}/crates/h5w_cli/out/h5w_cli"
 KIND = "i32le"
+COLUMNS = (None, (3, 2), (3, 2, "fixed"))
 
 # The process is killed where it would write to a place of a file for the H5SWMR_STOP-th time.
 SHIM = """
@@ -96,15 +97,19 @@ class Case:
         return [self.values(first + before * wide(self.columns), rows) for before, rows in zip(begins, self.batches)]
 
 
+def plain_cases(columns):
+    """Arrays or trees, whose blocks are in place or are copied, and whose index is there or is made by the append."""
+    for chunk in (1, 2, 64):
+        yield Case("our file", chunk, columns, 0, [chunk + 1, 1, chunk])
+        yield Case("our file", chunk, columns, 3 * chunk, [2 * chunk + 1, 1])
+        yield Case("h5py's file", chunk, columns, 2 * chunk - 1, [chunk + 2, 1])
+        yield Case("h5py's file without chunks", chunk, columns, chunk - 1, [chunk + 1])
+
+
 def cases():
-    """Arrays and trees, whose blocks are in place or are copied, and whose index is there or is made by the append."""
-    for columns in (None, (3, 2), (3, 2, "fixed")):
-        for chunk in (1, 2, 64):
-            yield Case("our file", chunk, columns, 0, [chunk + 1, 1, chunk])
-            yield Case("our file", chunk, columns, 3 * chunk, [2 * chunk + 1, 1])
-            yield Case("h5py's file", chunk, columns, 2 * chunk - 1, [chunk + 2, 1])
-            yield Case("h5py's file without chunks", chunk, columns, chunk - 1, [chunk + 1])
-        # (rows past the budget are written before their flush)
+    """These, and appends of which some rows are written before their flush."""
+    for columns in COLUMNS:
+        yield from plain_cases(columns)
         for more in ((), ("--no-reuse",)):
             yield Case("our file", 64, columns, 0, [400, 1, 300], ("--budget", "1024", *more))
             yield Case("h5py's file", 64, columns, 100, [400, 1], ("--budget", "1024", *more))

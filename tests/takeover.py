@@ -10,21 +10,17 @@ import tempfile
 
 import h5py
 
-from appends import SECONDS, lines_of, of, table, text_of, wide
-from stopping import PROGRAM, Case, built, ran, read_by_all
+import several
+from appends import SECONDS, lines_of, of, table, text_of, values_of, wide
+from stopping import COLUMNS, PROGRAM, Case, built, plain_cases, ran, read_by_all
 
 ATTEMPTS, POLLS = 1000, 3000
 
 
 def cases():
-    """Arrays and trees, whose blocks are in place or are copied, and whose index is there or is made by the writer that is stopped."""
-    for columns in (None, (3, 2), (3, 2, "fixed")):
-        for chunk in (1, 2, 64):
-            yield Case("our file", chunk, columns, 0, [chunk + 1, 1, chunk])
-            yield Case("our file", chunk, columns, 3 * chunk, [2 * chunk + 1, 1])
-            yield Case("h5py's file", chunk, columns, 2 * chunk - 1, [chunk + 2, 1])
-            yield Case("h5py's file without chunks", chunk, columns, chunk - 1, [chunk + 1])
-        # (rows past the budget are written before their flush)
+    """What writers are stopped in, and one of whose rows some are written before their flush."""
+    for columns in COLUMNS:
+        yield from plain_cases(columns)
         yield Case("our file", 64, columns, 0, [400, 1, 300], ("--budget", "1024"))
 
 
@@ -53,9 +49,9 @@ class Watch:
 class Taking:
     """An append that takes a file over, fed batch by batch."""
 
-    def __init__(self, file):
+    def __init__(self, file, *options):
         # (HDF5's library reads meanwhile, so no place is used again)
-        self.process = subprocess.Popen([PROGRAM, "append", file, "--takeover", "--no-reuse"], stdin=subprocess.PIPE, stdout=subprocess.PIPE, text=True)
+        self.process = subprocess.Popen([PROGRAM, "append", file, "--takeover", "--no-reuse", *options], stdin=subprocess.PIPE, stdout=subprocess.PIPE, text=True)
 
     def feed(self, values, columns):
         """Flushes these values; the line that tells it."""
@@ -112,6 +108,62 @@ def stopped(case, shim, folder):
         found += [f"before write {at}: {it}" for it in here]
 
 
+# ---- Several datasets
+
+
+def rows_there(file, names):
+    """How many rows a poll finds of each dataset."""
+    return [int(ran([PROGRAM, "poll", file, "--name", it])[1].split(" ")[1]) for it in names]
+
+
+def all_taken(file, names, held):
+    """What is not as it should be where a file with these values is taken over by all names while h5py has it open."""
+    values, found = dict(held), []
+    with h5py.File(file, "r", libver="latest", swmr=True) as opened:
+        writer = Taking(file, "--name", ",".join(names))
+        for turn in (0, 1):
+            text, wanted = several.input_of(names, values, [[(it, 1 + 2 * turn + at) for at, it in enumerate(names)]])
+            # (the lines of a call begin with its first dataset in use, and the next call's are in the same)
+            writer.process.stdin.write(("use 1\n" if turn else "") + text)
+            writer.process.stdin.flush()
+            found += of("append", writer.process.stdout.readline(), wanted.split("\n")[0] + "\n")
+            for name in names:
+                opened[name].id.refresh()
+                found += of(f"h5py {name}", opened[name][...].ravel().tolist(), values[name])
+        numbers = " ".join(str(len(several.rows_in(it, values[it]))) for it in names)
+        found += of("the end", writer.end(), (0, f"closed {numbers}\n"))
+    return found + several.read_all(file, names, values)
+
+
+def several_stopped(names, shim, folder):
+    """What is not as it should be at any stop of an append to several datasets at once. Behind a stop each dataset has the rows that were told, or
+    also those of the batch that was under way, since each has a piece of its own by which its rows are there."""
+    begun, file = f"{folder}/begun", f"{folder}/stopped"
+    several.made(begun, names)
+    first = {it: values_of(several.SETS[it][0], several.SETS[it][1][0] * several.width_of(it)) for it in names}
+    batches = [[(it, 3 + 2 * at) for at, it in enumerate(names)], [(names[-1], 40), (names[0], 1)]]
+    ends = [dict(first)]
+    for at in range(len(batches)):
+        after = dict(ends[-1])
+        several.input_of(names, after, [batches[at]])
+        ends.append(after)
+    text, found = several.input_of(names, dict(first), batches)[0], []
+    for at in itertools.count(1):
+        shutil.copyfile(begun, file)
+        how = {"env": {**os.environ, "LD_PRELOAD": shim, "H5SWMR_STOP": str(at)}}
+        status, told = ran([PROGRAM, "append", file, "--no-reuse", "--name", ",".join(names)], text, **how)
+        if status == 0:
+            return found + ([f"{at - 1} writes were stopped"] if found or at < 10 else [])
+        if at == 1:
+            continue
+        whole = told.count("rows ")
+        may = [{len(several.rows_in(it, end[it])) for end in ends[whole : whole + 2]} for it in names]
+        counts = rows_there(file, names)
+        here = [f"{it} has {count} rows, not {sorted(these)}" for it, count, these in zip(names, counts, may) if count not in these]
+        held = {it: ends[-1][it][: count * several.width_of(it)] for it, count in zip(names, counts)}
+        found += [f"before write {at}: {it}" for it in here + all_taken(file, names, held)]
+
+
 def trials():
     """Each trial by its name: what it finds is not as it should be, in a folder of its own."""
     if not shutil.which("cc"):
@@ -121,3 +173,5 @@ def trials():
         shim = built(folder)
         for case in cases():
             yield f"taken over: {case.name()}", lambda it, c=case: stopped(c, shim, it)
+        for names in (["line", "table"], ["fixed", "line"]):
+            yield f"taken over: {', '.join(names)} at once", lambda it, n=names: several_stopped(n, shim, it)
