@@ -169,8 +169,9 @@ def input_of(names, held, batches):
     return "\n".join(lines) + "\n", "\n".join([*wanted, f"closed {' '.join(str(len(rows_in(it, held[it]))) for it in names)}"]) + "\n"
 
 
-def read_all(file, names, held):
-    """What h5py, h5dump, a poll of each name and a check of all of them read otherwise."""
+def read_all(file, names, held, ends=True):
+    """What h5py, h5dump, a poll of each name and a check of all of them read otherwise. The file ends where its superblock says so, unless a writer was
+    stopped behind that."""
     found = []
     with h5py.File(file, "r") as opened:
         for name in names:
@@ -181,8 +182,8 @@ def read_all(file, names, held):
         rows = rows_in(name, held[name])
         found += of(f"poll {name}", run([PROGRAM, "poll", file, "--name", name, "--values"]), "".join(f"{it}\n" for it in [f"rows {len(rows)}", *(" ".join(map(str, it)) for it in rows)]))
     numbers = " ".join(str(len(rows_in(it, held[it]))) for it in names)
-    said = run([PROGRAM, "check", file, "--name", ",".join(names)])
-    return found + ([] if re.fullmatch(rf"valid rows {numbers} chunks \d+ blocks \d+ end {os.path.getsize(file)} lost \d+\n", said) else [f"check: {said!r}"])
+    said, end = run([PROGRAM, "check", file, "--name", ",".join(names)]), os.path.getsize(file) if ends else r"\d+"
+    return found + ([] if re.fullmatch(rf"valid rows {numbers} chunks \d+ blocks \d+ end {end} lost \d+\n", said) else [f"check: {said!r}"])
 
 
 def together(folder, names):

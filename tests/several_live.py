@@ -35,7 +35,7 @@ def beside_ours(folder, names):
     writer = Appending(file, "--name", ",".join(names), "--no-reuse")
     opened = None
     try:
-        for counts in BATCHES:
+        for counts in (it for it in BATCHES if any(it[: len(names)])):
             lines = []
             for at, name in enumerate(names):
                 more = more_of(name, held[name], counts[at])

@@ -111,6 +111,11 @@ def stopped(case, shim, folder):
 # ---- Several datasets
 
 
+def copied(held):
+    """The values of each dataset, as lists of their own."""
+    return {name: list(values) for name, values in held.items()}
+
+
 def rows_there(file, names):
     """How many rows a poll finds of each dataset."""
     return [int(ran([PROGRAM, "poll", file, "--name", it])[1].split(" ")[1]) for it in names]
@@ -118,7 +123,7 @@ def rows_there(file, names):
 
 def all_taken(file, names, held):
     """What is not as it should be where a file with these values is taken over by all names while h5py has it open."""
-    values, found = dict(held), []
+    values, found = copied(held), []
     with h5py.File(file, "r", libver="latest", swmr=True) as opened:
         writer = Taking(file, "--name", ",".join(names))
         for turn in (0, 1):
@@ -132,7 +137,7 @@ def all_taken(file, names, held):
                 found += of(f"h5py {name}", opened[name][...].ravel().tolist(), values[name])
         numbers = " ".join(str(len(several.rows_in(it, values[it]))) for it in names)
         found += of("the end", writer.end(), (0, f"closed {numbers}\n"))
-    return found + several.read_all(file, names, values)
+    return found + several.read_all(file, names, values, False)
 
 
 def several_stopped(names, shim, folder):
@@ -142,12 +147,12 @@ def several_stopped(names, shim, folder):
     several.made(begun, names)
     first = {it: values_of(several.SETS[it][0], several.SETS[it][1][0] * several.width_of(it)) for it in names}
     batches = [[(it, 3 + 2 * at) for at, it in enumerate(names)], [(names[-1], 40), (names[0], 1)]]
-    ends = [dict(first)]
+    ends = [first]
     for at in range(len(batches)):
-        after = dict(ends[-1])
+        after = copied(ends[-1])
         several.input_of(names, after, [batches[at]])
         ends.append(after)
-    text, found = several.input_of(names, dict(first), batches)[0], []
+    text, found = several.input_of(names, copied(first), batches)[0], []
     for at in itertools.count(1):
         shutil.copyfile(begun, file)
         how = {"env": {**os.environ, "LD_PRELOAD": shim, "H5SWMR_STOP": str(at)}}
