@@ -3,7 +3,8 @@ from the format's description. In tests/files/*.txt a file has a name behind `#`
 so often, and behind `=` the status and the line. Behind `rows N:` stand the values: all, or with `..` the first of them, the last, or both."""
 import tempfile
 
-from program import TOP, of, run
+from program import TOP, named, of, read, run, steps
+from trees import lookup3
 
 # What is asked of the files of each list, and how they came to be.
 LISTS = {
@@ -46,7 +47,20 @@ def asked(words, content, wanted):
         return of(words, (told(status, text, wanted), errors), (wanted, b""))
 
 
+def two_links(folder):
+    """Two links to one header: in a new file of two datasets the link to the second one leads to the first."""
+    found = steps(folder, ("new f --type i32le --chunk 2 --name a,b", b"", 0, b"new end 1023\n"))
+    content = bytearray(read(f"{folder}/f"))
+    found += of("the places of the links", [int.from_bytes(content[at : at + 8], "little") for at in (91, 107)], [119, 571])
+    content[107:115] = (119).to_bytes(8, "little")
+    content[115:119] = lookup3(bytes(content[48:115])).to_bytes(4, "little")
+    with open(f"{folder}/f", "wb") as file:
+        file.write(content)
+    return found + steps(folder, ("append f --name a,b", b"", 4, b"error writer same 1 2\n"), ("check f --name a,b", b"", 5, b"finding 21 119\n"), ("check f --name a", b"", 0, b"valid rows 0 chunks 0 blocks 5 end 1023 lost 452\n"))
+
+
 def trials():
+    yield from named("links", two_links)
     for name, words in LISTS.items():
         for title, content, wanted in files(name):
             yield f"{words.split(' ')[0]}, {name}: {title}", lambda w=words, c=content, it=wanted: asked(w, c, it)
