@@ -9,8 +9,8 @@ use Rattle.h5w_model.specs.Unfinished.{ReaderRules, rows_program}
 use Rattle.h5w_model.specs.declared.refusal.ReadError.{ReadError}
 use Rattle.h5w_laws.specs.Programs.{looks_on}
 use Rattle.h5w_laws.proofs.LookLemmas.{takes_on}
-use Rattle.h5w_headline.proofs.EndLemmas.{plain_open}
-use Rattle.h5w_headline.proofs.StillLemmas.{still_calls}
+use Rattle.h5w_reader_laws.proofs.EndLemmas.{plain_open}
+use Rattle.h5w_reader_laws.proofs.StillLemmas.{still_calls}
 
 pub looks_there : {A : Type 0} (img : List ℕ) (p : Prog A) → AllByRecursion (IsLookAt img) (looks_on img p)
 looks_there img (ret a) = tt

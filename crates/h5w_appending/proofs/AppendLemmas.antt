@@ -13,7 +13,7 @@ use Rattle.h5w_header_laws.specs.Files.{chunk_0}
 use Rattle.h5w_image.specs.View.{DiskView}
 use Rattle.h5w_several_open.specs.Beginnings.{HadFlags, root_by, shut_by}
 use Rattle.h5w_several_open.proofs.BeginningLemmas.{begun_root, shut_root}
-use Rattle.h5w_session.specs.Sessions.{Session, cleared, rows_of}
+use Rattle.h5w_writer.specs.Sessions.{Session, cleared, rows_of}
 use Rattle.h5w_text.specs.Errors.{error_text}
 use Rattle.h5w_text.specs.Says.{Said, SaidUnlessMemory}
 use Rattle.h5w_text.specs.Statuses.{status_of}

@@ -14,8 +14,8 @@ use Rattle.h5w_model.specs.declared.piece.Write.{Write}
 use Rattle.h5w_model.specs.declared.root.Super.{Super}
 use Rattle.h5w_model.proofs.ImageLemmas.{AllSized-append, At-apply, image-push}
 use Rattle.h5w_model.proofs.SuperLemmas.{length-super_bytes, super_at-super_bytes}
-use Rattle.h5w_steps.specs.Moments.{Represents, reading_of}
-use Rattle.h5w_steps.proofs.FoundLemmas.{moment_found, moment_shows}
+use Rattle.h5w_step_laws.specs.Moments.{Represents, reading_of}
+use Rattle.h5w_step_laws.proofs.FoundLemmas.{moment_found, moment_shows}
 use Rattle.h5w_image.specs.View.{DiskState, DiskView, Leaves, file, made, put}
 use Rattle.h5w_image.proofs.Names.{get-insert_same}
 use Rattle.h5w_image.proofs.DiskLemmas.{rose_from, missing_file, insert_twice}

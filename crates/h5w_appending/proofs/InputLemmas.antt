@@ -5,7 +5,7 @@ use Rattle.h5w_model.specs.Causes.{Rose}
 use Rattle.h5w_model.specs.Datasets.{Described}
 use Rattle.h5w_model.specs.Lawful.{first_outside}
 use Rattle.h5w_image.specs.View.{DiskView}
-use Rattle.h5w_session.specs.Sessions.{Session}
+use Rattle.h5w_writer.specs.Sessions.{Session}
 use Rattle.h5w_input.specs.LinesAhead.{AreSingles, Cut, Given, GivenUp, IntakeView, IsOver, IsWhole, LinesAhead, Stays, TakesNumbers, lines_ahead}
 use Rattle.h5w_input.specs.Scripts.{number_line_of}
 use Rattle.h5w_text.specs.Streams.{SourceView, SinkView}

@@ -11,9 +11,9 @@ use Rattle.h5w_opening.specs.Errors.{IsOpenKind}
 use Rattle.h5w_opening.specs.declared.error.OpenError.{OpenError}
 use Rattle.h5w_opening.specs.declared.error.OpenError.TheVariants as opens
 use Rattle.h5w_several_open.specs.Beginnings.{HasBegunBy, IsBeginAnswer, IsNotBegun}
-use Rattle.h5w_session.specs.Openings.{opened_log}
-use Rattle.h5w_session.specs.Sessions.{Session}
-use Rattle.h5w_session.specs.Stands.{Stands}
+use Rattle.h5w_writer.specs.Openings.{opened_log}
+use Rattle.h5w_writer.specs.Sessions.{Session}
+use Rattle.h5w_writer.specs.Stands.{Stands}
 use Rattle.h5w_text.specs.declared.error.ErrorLine.{ErrorLine}
 use Rattle.h5w_text.specs.declared.error.ErrorLine.TheVariants as errors
 use Rattle.h5w_files.specs.Images.{LeavesFiles, file_image, told_bytes}

@@ -8,8 +8,8 @@ use Rattle.h5w_model.specs.declared.piece.Write.{Write}
 use Rattle.h5w_image.specs.View.{DiskState, DiskView, IsThere, Leaves, file, put}
 use Rattle.h5w_image.proofs.DiskLemmas.{there_after_put, rose_from}
 use Rattle.h5w_space.specs.Space.{Space}
-use Rattle.h5w_session.specs.Sessions.{AfterPiece, Freed, Session, Settles}
-use Rattle.h5w_session.specs.Stands.{Stands}
+use Rattle.h5w_writer.specs.Sessions.{AfterPiece, Freed, Session, Settles}
+use Rattle.h5w_writer.specs.Stands.{Stands}
 use Rattle.h5w_files.specs.Images.{LeavesFiles}
 use Rattle.h5w_appending.specs.Puts.{AllAre, PutsPieces, PutsSome, after_puts, counts_of, showing, writes_of}
 

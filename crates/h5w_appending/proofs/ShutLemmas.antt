@@ -12,10 +12,10 @@ use Rattle.h5w_model.specs.declared.piece.Write.{Write}
 use Rattle.h5w_model.specs.declared.root.Super.{Super}
 use Rattle.h5w_image.specs.View.{DiskState, DiskView, file, put}
 use Rattle.h5w_image.proofs.Names.{get-insert_same}
-use Rattle.h5w_session.specs.Openings.{opened_log}
-use Rattle.h5w_session.specs.Sessions.{Session, cleared, closed_of, closed_root, rows_of}
-use Rattle.h5w_session.specs.Stands.{Stands}
-use Rattle.h5w_session.proofs.LawLemmas.{standing_laws}
+use Rattle.h5w_writer.specs.Openings.{opened_log}
+use Rattle.h5w_writer.specs.Sessions.{Session, cleared, closed_of, closed_root, rows_of}
+use Rattle.h5w_writer.specs.Stands.{Stands}
+use Rattle.h5w_writer.proofs.LawLemmas.{standing_laws}
 use Rattle.h5w_text.specs.Streams.{SourceView, SinkView}
 use Rattle.h5w_text.specs.declared.error.ErrorLine.{ErrorLine}
 use Rattle.h5w_files.specs.Images.{LeavesFiles, told_bytes}

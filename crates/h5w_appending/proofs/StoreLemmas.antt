@@ -9,10 +9,10 @@ use Rattle.h5w_model.specs.declared.root.Super.{Super}
 use Rattle.h5w_model.specs.Datasets.{Described}
 use Rattle.h5w_image.specs.View.{DiskView, ImageView, Same}
 use Rattle.h5w_image.proofs.DiskLemmas.{rose_from}
-use Rattle.h5w_session.specs.Openings.{opened_log}
-use Rattle.h5w_session.specs.Room.{HasRoomFor}
-use Rattle.h5w_session.specs.Sessions.{AddsValues, IsNamed, Session, TakesRows, rows_of}
-use Rattle.h5w_session.specs.Stands.{Stands}
+use Rattle.h5w_writer.specs.Openings.{opened_log}
+use Rattle.h5w_writer.specs.Room.{HasRoomFor}
+use Rattle.h5w_writer.specs.Sessions.{AddsValues, IsNamed, Session, TakesRows, rows_of}
+use Rattle.h5w_writer.specs.Stands.{Stands}
 use Rattle.h5w_files.specs.Images.{LeavesFiles, file_image}
 use Rattle.h5w_batches.specs.Batches.{Batches, close_batch, no_batches}
 use Rattle.h5w_appending.specs.Taken.{values_of}

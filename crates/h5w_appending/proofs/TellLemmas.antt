@@ -16,19 +16,19 @@ use Rattle.h5w_space.specs.declared.Full.{Full}
 use Rattle.h5w_opening.specs.Openings.{Opened, refused_dataset}
 use Rattle.h5w_opening.specs.declared.error.OpenError.{OpenError}
 use Rattle.h5w_opening.specs.declared.error.OpenError.TheVariants as opens
-use Rattle.h5w_session.specs.Loads.{NoPlace, first_end_of}
-use Rattle.h5w_session.specs.Openings.{opened_log}
-use Rattle.h5w_session.specs.Refusals.{chunks_refusal}
-use Rattle.h5w_session.specs.Sessions.{Session, chunk_limit, chunks_with, cutting_of, rows_of, with_rows}
-use Rattle.h5w_session.specs.declared.refusal.AppendError.{AppendError}
-use Rattle.h5w_session.specs.declared.refusal.AppendError.TheVariants as appends
-use Rattle.h5w_session.proofs.LawLemmas.{standing_laws}
+use Rattle.h5w_writer.specs.Loads.{NoPlace, first_end_of}
+use Rattle.h5w_writer.specs.Openings.{opened_log}
+use Rattle.h5w_writer.specs.Refusals.{chunks_refusal}
+use Rattle.h5w_writer.specs.Sessions.{Session, chunk_limit, chunks_with, cutting_of, rows_of, with_rows}
+use Rattle.h5w_writer.specs.declared.refusal.AppendError.{AppendError}
+use Rattle.h5w_writer.specs.declared.refusal.AppendError.TheVariants as appends
+use Rattle.h5w_writer.proofs.LawLemmas.{standing_laws}
 use Rattle.h5w_header_laws.specs.Files.{chunk_0}
 use Rattle.h5w_several_open.specs.Beginnings.{IsBegunOver, IsNotBegun, is_damaged, is_refused, not_found}
 use Rattle.h5w_several_open.proofs.BeginningLemmas.{begun_dataset}
-use Rattle.h5w_session_open.specs.OpenRanges.{cut_at, ranges_refused, refused_index, refused_open}
-use Rattle.h5w_session_open.specs.declared.index.NoIndex.{NoIndex}
-use Rattle.h5w_session_open.specs.declared.index.NoIndex.TheVariants.{Unnamed, Empty, WrongTotals, Unordered}
+use Rattle.h5w_writer_open.specs.OpenRanges.{cut_at, ranges_refused, refused_index, refused_open}
+use Rattle.h5w_writer_open.specs.declared.index.NoIndex.{NoIndex}
+use Rattle.h5w_writer_open.specs.declared.index.NoIndex.TheVariants.{Unnamed, Empty, WrongTotals, Unordered}
 use Rattle.h5w_index.specs.Views.{IndexView}
 use Rattle.h5w_text.specs.Streams.{SourceView, SinkView}
 use Rattle.h5w_text.specs.declared.error.ErrorLine.{ErrorLine}

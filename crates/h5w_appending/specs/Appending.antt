@@ -4,12 +4,12 @@ use Rattle.h5w_model.specs.Causes.{Rose}
 use Rattle.h5w_model.specs.Lawful.{first_outside}
 use Rattle.h5w_model.specs.Logs.{Log, and_now, appends, plans}
 use Rattle.h5w_image.specs.View.{DiskView, IsThere, file}
-use Rattle.h5w_session.specs.Flushes.{SameBut}
-use Rattle.h5w_session.specs.Loads.{NoPlace}
-use Rattle.h5w_session.specs.Refusals.{IsDeepFor, IsFullFor, append_refusal}
-use Rattle.h5w_session.specs.Sessions.{AddsValues, Session, TakesRows, rows_of, stopped_of}
-use Rattle.h5w_session.specs.Stands.{Stands}
-use Rattle.h5w_session.specs.declared.refusal.AppendError.TheVariants as append_errors
+use Rattle.h5w_writer.specs.Flushes.{SameBut}
+use Rattle.h5w_writer.specs.Loads.{NoPlace}
+use Rattle.h5w_writer.specs.Refusals.{IsDeepFor, IsFullFor, append_refusal}
+use Rattle.h5w_writer.specs.Sessions.{AddsValues, Session, TakesRows, rows_of, stopped_of}
+use Rattle.h5w_writer.specs.Stands.{Stands}
+use Rattle.h5w_writer.specs.declared.refusal.AppendError.TheVariants as append_errors
 use Rattle.h5w_several_open.specs.declared.beginning.Beginning.{Beginning}
 use Rattle.h5w_input.specs.LinesAhead.{LinesAhead, TakesNumbers}
 use Rattle.h5w_input.specs.Scripts.{number_line_of}

@@ -16,14 +16,14 @@ use Rattle.h5w_opening.specs.declared.error.OpenError.{OpenError}
 use Rattle.h5w_opening.specs.declared.error.OpenError.TheVariants as opens
 use Rattle.h5w_image.specs.View.{DiskView, IsThere, file}
 use Rattle.h5w_space.specs.declared.Full.{Full}
-use Rattle.h5w_session.specs.Loads.{NoPlace}
+use Rattle.h5w_writer.specs.Loads.{NoPlace}
 use Rattle.h5w_several_open.specs.Beginnings.{HadFlags, HasBegunBy, IsBegunOver, IsNotBegun, shut_by}
 use Rattle.h5w_several_open.specs.declared.beginning.Beginning.{Beginning}
-use Rattle.h5w_session.specs.Openings.{opened_log}
-use Rattle.h5w_session.specs.Refusals.{IsDeepFor, IsFullFor, append_refusal}
-use Rattle.h5w_session.specs.Sessions.{IsNamed, Session, cleared}
-use Rattle.h5w_session.specs.Stands.{Stands}
-use Rattle.h5w_session.specs.declared.refusal.AppendError.TheVariants as appends
+use Rattle.h5w_writer.specs.Openings.{opened_log}
+use Rattle.h5w_writer.specs.Refusals.{IsDeepFor, IsFullFor, append_refusal}
+use Rattle.h5w_writer.specs.Sessions.{IsNamed, Session, cleared}
+use Rattle.h5w_writer.specs.Stands.{Stands}
+use Rattle.h5w_writer.specs.declared.refusal.AppendError.TheVariants as appends
 use Rattle.h5w_text.specs.Errors.{error_text}
 use Rattle.h5w_input.specs.Scripts.{number_line_of}
 use Rattle.h5w_text.specs.Streams.{SourceView, SinkView, Gave, GaveSome}

@@ -3,9 +3,9 @@ pub use Rattle.h5w_model.specs.Causes
 pub use Rattle.h5w_model.specs.Findings
 pub use Rattle.h5w_image.specs.View
 pub use Rattle.h5w_options.specs.Options
-pub use Rattle.h5w_session.specs.Creations
-pub use Rattle.h5w_session.specs.Sessions
-pub use Rattle.h5w_session.specs.Stands
+pub use Rattle.h5w_writer.specs.Creations
+pub use Rattle.h5w_writer.specs.Sessions
+pub use Rattle.h5w_writer.specs.Stands
 pub use Rattle.h5w_text.specs.Streams
 pub use Rattle.h5w_text.specs.Says
 pub use Rattle.h5w_batches.specs.Batches

@@ -5,8 +5,8 @@ use Rattle.h5w_model.specs.Logs.{Log}
 use Rattle.h5w_model.specs.declared.piece.Write.{Write}
 use Rattle.h5w_image.specs.View.{DiskState, DiskView, put}
 use Rattle.h5w_flush_laws.specs.Flushes.{shown_also}
-use Rattle.h5w_session.specs.Sessions.{Session}
-use Rattle.h5w_session.specs.Stands.{Stands}
+use Rattle.h5w_writer.specs.Sessions.{Session}
+use Rattle.h5w_writer.specs.Stands.{Stands}
 use Rattle.h5w_files.specs.Images.{LeavesFiles}
 
 -- The disk after puts into the file of a name, the oldest first: each is a write, with the count of faults that stood before it.

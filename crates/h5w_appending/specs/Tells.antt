@@ -17,9 +17,9 @@ use Rattle.h5w_space.specs.declared.Full.{Full}
 use Rattle.h5w_opening.specs.Openings.{Opened, refused_dataset}
 use Rattle.h5w_opening.specs.declared.error.OpenError.{OpenError}
 use Rattle.h5w_opening.specs.declared.error.OpenError.TheVariants as opens
-use Rattle.h5w_session.specs.Loads.{end_in}
-use Rattle.h5w_session.specs.Openings.{opened_log}
-use Rattle.h5w_session.specs.Sessions.{with_rows}
+use Rattle.h5w_writer.specs.Loads.{end_in}
+use Rattle.h5w_writer.specs.Openings.{opened_log}
+use Rattle.h5w_writer.specs.Sessions.{with_rows}
 use Rattle.h5w_several_open.specs.Beginnings.{found_by}
 use Rattle.h5w_several_open.specs.declared.beginning.Beginning.{Beginning}
 use Rattle.h5w_text.specs.Errors.{error_text}

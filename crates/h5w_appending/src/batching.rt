@@ -2,7 +2,7 @@
 ghost use Rattle.std.specs.Prelude.{◌≡◌, ◌≤◌, ℕ, List, length, Some, OnOk};
 ghost use Rattle.h5w_image.specs.View.{IsThere};
 ghost use Rattle.h5w_batches.specs.Batches.{AreWholeRows};
-ghost use Rattle.h5w_session.specs.Sessions.{AreRows};
+ghost use Rattle.h5w_writer.specs.Sessions.{AreRows};
 ghost use Rattle.h5w_input.specs.LinesAhead.{IsLine};
 ghost use Rattle.h5w_input.specs.Scripts.{number_line_of};
 ghost use Rattle.h5w_appending.specs.Appends.{columns_of};
@@ -13,7 +13,7 @@ use h5w_batches::{BatchError, line_values};
 use h5w_files::DiskImage;
 use h5w_image::Disk;
 use h5w_input::{LineError, TextLine};
-use h5w_session::{AppendError, FlushError, WriterCore};
+use h5w_writer::{AppendError, FlushError, WriterCore};
 use h5w_text::{ErrorLine, Sink, write_numbers};
 use std::alloc::Global;
 

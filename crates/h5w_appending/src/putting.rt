@@ -3,12 +3,12 @@ ghost use Rattle.std.specs.Prelude.{◌≡◌, ◌≤◌, ◌+◌, [], false, le
 ghost use Rattle.h5w_image.specs.View.{IsThere};
 ghost use Rattle.h5w_model.specs.Logs.{Log};
 ghost use Rattle.h5w_model.specs.Superblock.{super_at, super_bytes};
-ghost use Rattle.h5w_session.specs.Sessions.{closed_of, closed_root};
-ghost use Rattle.h5w_session.specs.Stands.{Stands};
+ghost use Rattle.h5w_writer.specs.Sessions.{closed_of, closed_root};
+ghost use Rattle.h5w_writer.specs.Stands.{Stands};
 ghost use Rattle.h5w_appending.specs.Puts.{PutsPieces, PutsSome};
 
 use h5w_image::{Disk, Failed};
-use h5w_session::WriterCore;
+use h5w_writer::WriterCore;
 
 /// Puts the session's oldest pending piece into the file.
 #[tactic(auto, using(h5w_image::proofs::DiskLemmas::kept))]

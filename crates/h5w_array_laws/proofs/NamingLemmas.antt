@@ -12,17 +12,17 @@ use Rattle.h5w_cache.specs.Stores.{Store, place_of}
 use Rattle.h5w_cache.specs.Plans.{bytes_in}
 use Rattle.h5w_cache.specs.StoreLaws.{Standing}
 use Rattle.h5w_cache.proofs.LawLemmas.{standing_after}
-use Rattle.h5w_visits.specs.Ranges.{Among, AllEndBy, Disjoint, block_at}
-use Rattle.h5w_visits.proofs.RangeLemmas.{among_left, among_right, among_split, ends_left}
-use Rattle.h5w_steps.specs.Moments.{Moment, Represents, all_used}
-use Rattle.h5w_steps.specs.Steps.{OffAll, Clear, Step}
-use Rattle.h5w_steps.specs.Writers.{Naming}
-use Rattle.h5w_steps.specs.Plans.{Plan}
-use Rattle.h5w_steps.proofs.MomentLemmas.{few}
-use Rattle.h5w_steps.proofs.StepRepresents.{step_represents}
-use Rattle.h5w_steps.proofs.WriterLaws.{naming_switches}
-use Rattle.h5w_steps.proofs.GoesLemmas.{behind_front, behind_clear, clear_joined, off_joined}
-use Rattle.h5w_steps.proofs.PartLemmas.{disjoint_part, count_joined}
+use Rattle.h5w_visit_laws.specs.Ranges.{Among, AllEndBy, Disjoint, block_at}
+use Rattle.h5w_visit_laws.proofs.RangeLemmas.{among_left, among_right, among_split, ends_left}
+use Rattle.h5w_step_laws.specs.Moments.{Moment, Represents, all_used}
+use Rattle.h5w_step_laws.specs.Steps.{OffAll, Clear, Step}
+use Rattle.h5w_step_laws.specs.Writers.{Naming}
+use Rattle.h5w_step_laws.specs.Plans.{Plan}
+use Rattle.h5w_step_laws.proofs.MomentLemmas.{few}
+use Rattle.h5w_step_laws.proofs.StepRepresents.{step_represents}
+use Rattle.h5w_step_laws.proofs.WriterLaws.{naming_switches}
+use Rattle.h5w_step_laws.proofs.GoesLemmas.{behind_front, behind_clear, clear_joined, off_joined}
+use Rattle.h5w_step_laws.proofs.PartLemmas.{disjoint_part, count_joined}
 use Rattle.h5w_array_laws.specs.Parts.{index_block, header}
 use Rattle.h5w_array_laws.specs.Among.{AreAmong}
 use Rattle.h5w_array_laws.specs.ArrayStores.{IsArray, place_at_part, bytes_at_part, header_place, behind_of, blocks_in_place}

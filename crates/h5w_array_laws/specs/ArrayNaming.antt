@@ -11,10 +11,10 @@ use Rattle.h5w_cache.specs.Stores.{Store}
 use Rattle.h5w_cache.specs.Plans.{IsPlan}
 use Rattle.h5w_cache.specs.StoreLaws.{IsRetired}
 use Rattle.h5w_cache.specs.declared.moves.Move.{Move}
-use Rattle.h5w_visits.specs.Ranges.{Among, AllEndBy, Disjoint}
-use Rattle.h5w_steps.specs.Moments.{Moment, Represents, HasCells, all_used}
-use Rattle.h5w_steps.specs.Steps.{OffAll, Clear}
-use Rattle.h5w_steps.specs.Plans.{Plan, UnseenRange}
+use Rattle.h5w_visit_laws.specs.Ranges.{Among, AllEndBy, Disjoint}
+use Rattle.h5w_step_laws.specs.Moments.{Moment, Represents, HasCells, all_used}
+use Rattle.h5w_step_laws.specs.Steps.{OffAll, Clear}
+use Rattle.h5w_step_laws.specs.Plans.{Plan, UnseenRange}
 use Rattle.h5w_array_laws.specs.Among.{AreAmong}
 use Rattle.h5w_array_laws.specs.ArrayStores.{IsArray, header_place, map_of, fixed_of, behind_of}
 use Rattle.h5w_array_laws.specs.ArrayImages.{HeaderStands, StandsArray, BehindStands, IsPlanned}

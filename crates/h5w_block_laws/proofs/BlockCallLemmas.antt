@@ -7,18 +7,18 @@ use Rattle.h5w_model.specs.Headers.{with_rows_bytes}
 use Rattle.h5w_model.specs.Images.{image}
 use Rattle.h5w_model.specs.Logs.{plans, and_now}
 use Rattle.h5w_model.specs.declared.piece.Write.{Write}
-use Rattle.h5w_visits.specs.Ranges.{Among, AreApart, Disjoint, block_at}
+use Rattle.h5w_visit_laws.specs.Ranges.{Among, AreApart, Disjoint, block_at}
 use Rattle.h5w_space.specs.Space.{Space, IsLive}
 use Rattle.h5w_cache.specs.Stores.{Store}
 use Rattle.h5w_cache.specs.StoreLaws.{Standing}
 use Rattle.h5w_cache.specs.declared.moves.Move.{Move}
 use Rattle.h5w_chunks.specs.declared.grid.ChunkPlace.{ChunkPlace}
 use Rattle.h5w_header_laws.specs.Files.{chunk_0, commit_at}
-use Rattle.h5w_steps.specs.Moments.{Moment, all_used}
-use Rattle.h5w_steps.specs.Logs.{image_now}
-use Rattle.h5w_steps.specs.Sessions.{Runs}
-use Rattle.h5w_steps.proofs.MomentLemmas.{in_fixed}
-use Rattle.h5w_steps.proofs.PartLemmas.{apart_sym, disjoint_apart}
+use Rattle.h5w_step_laws.specs.Moments.{Moment, all_used}
+use Rattle.h5w_step_laws.specs.Logs.{image_now}
+use Rattle.h5w_step_laws.specs.Sessions.{Runs}
+use Rattle.h5w_step_laws.proofs.MomentLemmas.{in_fixed}
+use Rattle.h5w_step_laws.proofs.PartLemmas.{apart_sym, disjoint_apart}
 use Rattle.h5w_array_laws.specs.ArrayStores.{header_place, fixed_of, behind_of}
 use Rattle.h5w_array_laws.specs.ArrayImages.{StartsArray}
 use Rattle.h5w_array_laws.proofs.CreatedLemmas.{created_starts}
@@ -26,7 +26,7 @@ use Rattle.h5w_flush_laws.specs.Spaces.{AllLive, Taken, extent_of}
 use Rattle.h5w_flush_laws.specs.Parts.{Parts, pieces_of}
 use Rattle.h5w_flush_laws.specs.Chunks.{chunks_for}
 use Rattle.h5w_flush_laws.proofs.SpaceLemmas.{taken_disjoint}
-use Rattle.h5w_array_flushes.specs.ArrayBegins.{Begins}
+use Rattle.h5w_array_flush_laws.specs.ArrayBegins.{Begins}
 use Rattle.h5w_starting_laws.specs.Starting.{no_chunk, IsBlank}
 use Rattle.h5w_starting_laws.specs.StartCalls.{first_shown}
 use Rattle.h5w_starting_laws.specs.StartFlushes.{HasStartingPart}

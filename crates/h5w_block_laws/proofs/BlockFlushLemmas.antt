@@ -7,16 +7,16 @@ use Rattle.h5w_model.specs.Arrays.{eahd_len, eaib_len}
 use Rattle.h5w_model.specs.Findings.{Used, the_superblock}
 use Rattle.h5w_model.specs.declared.piece.Write.{Write}
 use Rattle.h5w_model.proofs.ImageLemmas.{At-apply, At-apply_missed, At-image_missed, image-push}
-use Rattle.h5w_visits.specs.Ranges.{Among, AreApart, Disjoint, block_at}
+use Rattle.h5w_visit_laws.specs.Ranges.{Among, AreApart, Disjoint, block_at}
 use Rattle.h5w_space.specs.Space.{Space}
 use Rattle.h5w_cache.specs.Stores.{Store}
 use Rattle.h5w_cache.specs.StoreLaws.{Standing}
 use Rattle.h5w_cache.specs.declared.moves.Move.{Move}
 use Rattle.h5w_chunks.specs.declared.grid.ChunkPlace.{ChunkPlace}
 use Rattle.h5w_header_laws.specs.Files.{commit_at}
-use Rattle.h5w_steps.specs.Moments.{Moment, all_used}
-use Rattle.h5w_steps.specs.Steps.{LiesIn}
-use Rattle.h5w_steps.proofs.PartLemmas.{apart_sym, disjoint_apart}
+use Rattle.h5w_step_laws.specs.Moments.{Moment, all_used}
+use Rattle.h5w_step_laws.specs.Steps.{LiesIn}
+use Rattle.h5w_step_laws.proofs.PartLemmas.{apart_sym, disjoint_apart}
 use Rattle.h5w_array_laws.specs.Among.{AreAmong}
 use Rattle.h5w_array_laws.specs.Parts.{index_block, header}
 use Rattle.h5w_array_laws.specs.ArrayStores.{place_at_part, bytes_at_part, header_place, fixed_of}

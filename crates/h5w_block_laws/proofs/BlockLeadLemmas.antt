@@ -4,15 +4,15 @@ use Rattle.std.specs.Prelude.{ℤ}
 use Rattle.h5w_model.specs.Images.{At}
 use Rattle.h5w_model.specs.Findings.{chunk_bytes}
 use Rattle.h5w_model.specs.declared.piece.Write.{Write}
-use Rattle.h5w_visits.specs.Ranges.{block_at}
+use Rattle.h5w_visit_laws.specs.Ranges.{block_at}
 use Rattle.h5w_space.specs.Space.{Space}
 use Rattle.h5w_cache.specs.Stores.{Store, place_of}
 use Rattle.h5w_cache.specs.Plans.{bytes_in}
 use Rattle.h5w_cache.specs.StoreLaws.{IsPlaced}
 use Rattle.h5w_cache.specs.declared.moves.Move.{Move}
 use Rattle.h5w_chunks.specs.declared.grid.ChunkPlace.{ChunkPlace}
-use Rattle.h5w_steps.specs.Moments.{Moment}
-use Rattle.h5w_steps.specs.Logs.{image_now}
+use Rattle.h5w_step_laws.specs.Moments.{Moment}
+use Rattle.h5w_step_laws.specs.Logs.{image_now}
 use Rattle.h5w_array_laws.specs.ArrayImages.{BehindStands, StandsArray}
 use Rattle.h5w_array_laws.specs.ArrayPlans.{IsArrayPlan}
 use Rattle.h5w_array_laws.proofs.PlanLemmas.{two_apart}
@@ -23,7 +23,7 @@ use Rattle.h5w_flush_laws.specs.Parts.{Parts, IsFlush, block_writes, copied, end
 use Rattle.h5w_flush_laws.specs.Chunks.{chunks_for}
 use Rattle.h5w_flush_laws.proofs.FlushLemmas.{supers_miss}
 use Rattle.h5w_flush_laws.proofs.HeaderLemmas.{last_image}
-use Rattle.h5w_array_flushes.proofs.ArrayFlushLemmas.{placed_range}
+use Rattle.h5w_array_flush_laws.proofs.ArrayFlushLemmas.{placed_range}
 use Rattle.h5w_starting_laws.specs.Starting.{no_chunk}
 use Rattle.h5w_starting_laws.specs.StartFlushes.{IsStarted}
 use Rattle.h5w_starting_laws.proofs.FirstLeadLemmas.{StandsThen, first_leads, first_runs}

@@ -1,7 +1,7 @@
 //! What C calls of a writer of several datasets of one file. A dataset is named by its number, counted from 0, in the order of the names. Names are the
 //! bytes of all of them, one behind another, and how many bytes each has.
 ghost use Rattle.std.specs.Prelude.{◌≡◌, IsFalse, None, length, map, pos, true, false};
-ghost use Rattle.h5w_session.specs.Sessions.{Session, rows_of};
+ghost use Rattle.h5w_writer.specs.Sessions.{Session, rows_of};
 ghost use Rattle.h5w_handles.specs.Codes.{misuse};
 ghost use Rattle.h5w_handles.specs.ReaderCalls.{place_if};
 ghost use Rattle.h5w_several_handles.specs.Handles.{CreatesSet, OnSeveral, OpensSet};

@@ -1,6 +1,6 @@
 //! What C calls of a writer.
 ghost use Rattle.std.specs.Prelude.{◌≡◌, IsFalse, None, map, pos};
-ghost use Rattle.h5w_session.specs.Sessions.{rows_of};
+ghost use Rattle.h5w_writer.specs.Sessions.{rows_of};
 ghost use Rattle.h5w_handles.specs.Codes.{misuse};
 ghost use Rattle.h5w_handles.specs.ReaderCalls.{place_if};
 ghost use Rattle.h5w_writer_handles.specs.Handles.{CreatesWriter, OnWriter, OpensWriter};

@@ -15,7 +15,7 @@ use Rattle.h5w_check.specs.declared.span.Span.{Span}
 use Rattle.h5w_check.specs.declared.known.KnownNodes.{KnownNodes}
 use Rattle.h5w_check.specs.declared.error.CheckError.{CheckError}
 use Rattle.h5w_check.specs.declared.error.CheckError.TheVariants as errors
-use Rattle.h5w_found.proofs.RanLemmas.{ran_begin, same_value}
+use Rattle.h5w_headers.proofs.RanLemmas.{ran_begin, same_value}
 use Rattle.h5w_check.proofs.KnownLemmas.{ran_visits}
 use Rattle.h5w_check.proofs.TreeLemmas.{child_next, child_rest}
 

@@ -5,11 +5,11 @@ use Rattle.h5w_model.specs.Datasets.{refused_as}
 use Rattle.h5w_model.specs.Findings.{Finding, found, overlap}
 use Rattle.h5w_model.specs.declared.refusal.ReadError.{ReadError}
 use Rattle.h5w_image.specs.View.{ImageView}
-use Rattle.h5w_found.specs.Ran as calls
-use Rattle.h5w_found.specs.Errors.{find_errors, refusal_of}
-use Rattle.h5w_found.specs.declared.error.FindError.{FindError}
-use Rattle.h5w_found.specs.declared.error.FindError.TheVariants as not_found
-use Rattle.h5w_found.proofs.KindLemmas.{Become, become, ran_as, told_as}
+use Rattle.h5w_headers.specs.Ran as calls
+use Rattle.h5w_headers.specs.Errors.{find_errors, refusal_of}
+use Rattle.h5w_headers.specs.declared.error.FindError.{FindError}
+use Rattle.h5w_headers.specs.declared.error.FindError.TheVariants as not_found
+use Rattle.h5w_headers.proofs.KindLemmas.{Become, become, ran_as, told_as}
 use Rattle.h5w_check.specs.Ran.{Ran, Told, check_errors, finding_of}
 use Rattle.h5w_check.specs.Headers.{error_for}
 use Rattle.h5w_check.specs.Verdicts.{error_of}

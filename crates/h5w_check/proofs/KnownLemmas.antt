@@ -12,7 +12,7 @@ use Rattle.h5w_check.specs.declared.known.KnownNodes.{KnownNodes}
 use Rattle.h5w_check.specs.declared.error.CheckError.{CheckError}
 use Rattle.h5w_check.specs.declared.error.CheckError.TheVariants as errors
 use Rattle.h5w_looks.proofs.ReadLemmas.{still_on}
-use Rattle.h5w_found.proofs.RanLemmas.{tells_along, stops_along, later, same_error}
+use Rattle.h5w_headers.proofs.RanLemmas.{tells_along, stops_along, later, same_error}
 
 -- ---- One call after another
 

@@ -8,7 +8,7 @@ use Rattle.h5w_model.specs.Findings.{Used, Finding, found, bad_root, no_link, sa
 use Rattle.h5w_model.specs.declared.root.Super.{Super}
 use Rattle.h5w_model.specs.declared.refusal.ReadError.{ReadError}
 use Rattle.h5w_laws.proofs.ProgramLemmas.{eval_bind}
-use Rattle.h5w_found.specs.Linked.{Led, led_by, LinksAre}
+use Rattle.h5w_headers.specs.Linked.{Led, led_by, LinksAre}
 use Rattle.h5w_check.specs.Headers.{finding_for}
 use Rattle.h5w_check.specs.Ranges.{after}
 use Rattle.h5w_check.specs.Roots.{met_again, names_after}

@@ -3,8 +3,8 @@ use Rattle.std.specs.Prelude.{ℕ, Result}
 use Rattle.h5w_model.specs.Datasets.{refused_as}
 use Rattle.h5w_model.specs.Findings.{Finding, found}
 use Rattle.h5w_model.specs.declared.refusal.ReadError.{ReadError}
-use Rattle.h5w_found.specs.declared.error.FindError.{FindError}
-use Rattle.h5w_found.specs.declared.error.FindError.TheVariants as find_errors
+use Rattle.h5w_headers.specs.declared.error.FindError.{FindError}
+use Rattle.h5w_headers.specs.declared.error.FindError.TheVariants as find_errors
 use Rattle.h5w_check.specs.Verdicts.{error_of}
 use Rattle.h5w_check.specs.declared.error.CheckError.{CheckError}
 use Rattle.h5w_check.specs.declared.error.CheckError.TheVariants as errors

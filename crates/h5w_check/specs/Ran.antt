@@ -2,8 +2,8 @@
 use Rattle.std.specs.Prelude.{ℕ, List, Option, Some, None, Result}
 use Rattle.h5w_model.specs.Findings.{Finding, found, overlap}
 use Rattle.h5w_image.specs.View.{ImageView}
-use Rattle.h5w_found.specs.Ran as calls
-pub use Rattle.h5w_found.specs.Ran.{answering, seen}
+use Rattle.h5w_headers.specs.Ran as calls
+pub use Rattle.h5w_headers.specs.Ran.{answering, seen}
 use Rattle.h5w_check.specs.declared.error.CheckError.{CheckError}
 use Rattle.h5w_check.specs.declared.error.CheckError.TheVariants as errors
 

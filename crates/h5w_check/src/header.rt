@@ -7,7 +7,7 @@ ghost use Rattle.h5w_model.specs.Datasets.{dataset_messages, refused_as};
 ghost use Rattle.h5w_model.specs.Tables.{format_limits};
 ghost use Rattle.h5w_model.specs.Findings.{checked_dataset, dataset_finding, found};
 ghost use Rattle.h5w_dataset.specs.Founds.{founds};
-ghost use Rattle.h5w_found.specs.Headers.{header_of};
+ghost use Rattle.h5w_headers.specs.Headers.{header_of};
 ghost use Rattle.h5w_dataset.specs.Described.{described_of};
 ghost use Rattle.h5w_check.specs.Ran.{Ran, Told, seen};
 ghost use Rattle.h5w_check.specs.Headers.{error_for};
@@ -17,7 +17,7 @@ ghost use Rattle.h5w_check.specs.Roots.{dataset_after};
 use crate::error::CheckError;
 use crate::ranges::Ranges;
 use h5w_dataset::{Dataset, FoundMessage, describe};
-use h5w_found::{FindError, Header};
+use h5w_headers::{FindError, Header};
 use h5w_image::PieceRead;
 use h5w_model::ReadError;
 use h5w_super::Super;
@@ -63,7 +63,7 @@ fn dataset_header<I: PieceRead>(alloc: Global, image: &mut I, at: u64) -> Result
         (λ img. refused_as (dataset_finding at) (eval img (dataset_messages at (header_view (range img at 512)))))
         (seen header_of result) }
 {
-    match h5w_found::dataset_header(alloc, image, false, at) {
+    match h5w_headers::dataset_header(alloc, image, false, at) {
         Ok(header) => Ok(header),
         Err(error) => Err(dataset_finding(&error, at)),
     }

@@ -2,12 +2,12 @@
 ghost use Rattle.std.specs.Prelude.{◌≡◌, ◌+◌, ◌++◌, ◌∷◌, [], map, nat_lt, true, false, Ok};
 ghost use Rattle.h5w_model.specs.Findings.{Used, chunk_ranges, header_ranges};
 ghost use Rattle.h5w_check.specs.Ran.{Told, answering};
-ghost use Rattle.h5w_found.specs.Headers.{ranges_of};
+ghost use Rattle.h5w_headers.specs.Headers.{ranges_of};
 ghost use Rattle.h5w_check.specs.Ranges.{after, put_after};
 
 use crate::error::CheckError;
 use h5w_bytes::UNDEFINED;
-use h5w_found::Extent;
+use h5w_headers::Extent;
 use std::alloc::Global;
 use std::marker::Model;
 

@@ -4,7 +4,7 @@ ghost use Rattle.h5w_model.specs.Findings.{found};
 ghost use Rattle.h5w_check.specs.Headers.{error_for};
 
 use crate::error::CheckError;
-use h5w_found::FindError;
+use h5w_headers::FindError;
 
 /// The finding that stands for any refusal of what is looked for.
 pub fn finding(error: &FindError, kind: u8, at: u64) -> CheckError

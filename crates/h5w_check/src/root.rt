@@ -4,7 +4,7 @@ ghost use Rattle.h5w_model.specs.Programs.{eval};
 ghost use Rattle.h5w_model.specs.Datasets as model;
 ghost use Rattle.h5w_model.specs.Findings.{checked_links, checked_names};
 ghost use Rattle.h5w_dataset.specs.Founds.{founds};
-ghost use Rattle.h5w_found.specs.Headers.{header_of};
+ghost use Rattle.h5w_headers.specs.Headers.{header_of};
 ghost use Rattle.h5w_check.specs.Ran.{Ran, Told, seen};
 ghost use Rattle.h5w_check.specs.Headers.{finding_for};
 ghost use Rattle.h5w_check.specs.Roots.{met_again, names_after};
@@ -13,7 +13,7 @@ use crate::error::CheckError;
 use crate::ranges::Ranges;
 use crate::refusal::finding;
 use h5w_dataset::FoundMessage;
-use h5w_found::{Header, places_of};
+use h5w_headers::{Header, places_of};
 use h5w_image::PieceRead;
 use h5w_names::Names;
 use h5w_super::Super;
@@ -32,7 +32,7 @@ const SAME_HEADER: u8 = 21;
 fn root_header<I: PieceRead>(alloc: Global, image: &mut I, place: u64) -> Result<Header, CheckError>
     ensures { Ran (I.view image.old) (I.view image.new) (λ img. finding_for 6 place (eval img (model.root_header place))) (seen header_of result) }
 {
-    match h5w_found::root_header(alloc, image, false, place) {
+    match h5w_headers::root_header(alloc, image, false, place) {
         Ok(header) => Ok(header),
         Err(error) => Err(finding(&error, ROOT_HEADER, place)),
     }

@@ -4,8 +4,8 @@ use crate::files::{FILE, GRID};
 use crate::packed::unpacked;
 use h5w_image::MemImage;
 use h5w_opening::OpenError;
-use h5w_session::WriterCore;
-use h5w_session_open::open;
+use h5w_writer::WriterCore;
+use h5w_writer_open::open;
 use std::alloc::{AllocError, Global};
 use std::test::Fail;
 

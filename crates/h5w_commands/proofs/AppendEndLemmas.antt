@@ -8,7 +8,7 @@ use Rattle.h5w_model.specs.Datasets.{Described}
 use Rattle.h5w_image.specs.View.{DiskState, DiskView, file}
 use Rattle.h5w_opening.specs.Openings.{Opened}
 use Rattle.h5w_opening.specs.declared.error.OpenError.TheVariants as opens
-use Rattle.h5w_session.specs.Sessions.{Session}
+use Rattle.h5w_writer.specs.Sessions.{Session}
 use Rattle.h5w_text.specs.Errors.{error_text}
 use Rattle.h5w_input.specs.Lines.{lines_of}
 use Rattle.h5w_text.specs.Says.{Said, whole, failed}

@@ -18,7 +18,7 @@ use Rattle.h5w_laws.proofs.LogLemmas.{length_hist}
 use Rattle.h5w_creation_laws.specs.CreatedFiles.{CreatedFile, block_write, created_blocks, created_writes, header_block, index_blocks, root_block, super_block}
 use Rattle.h5w_creation_laws.proofs.BornLemmas.{created_born}
 use Rattle.h5w_form.specs.NewFiles.{new_file}
-use Rattle.h5w_session.proofs.LawLemmas.{standing_laws}
+use Rattle.h5w_writer.proofs.LawLemmas.{standing_laws}
 use Rattle.h5w_options.specs.declared.options.Options.{Options}
 use Rattle.h5w_input.specs.Lines.{lines_of, whole_lines_of}
 use Rattle.h5w_text.specs.Errors.{error_text}

@@ -7,7 +7,7 @@ use Rattle.h5w_model.specs.declared.event.Event.TheVariants as events
 use Rattle.h5w_model.specs.declared.piece.Write.{Write}
 use Rattle.h5w_model.specs.declared.reply.Reply.{Reply}
 use Rattle.h5w_core.specs.Worlds.{HaveOneLog, StandsFor, WorldView, logged, rules_of}
-use Rattle.h5w_headline.specs.Showing.{showing}
+use Rattle.h5w_reader_laws.specs.Showing.{showing}
 use Rattle.h5w_commands.specs.Writing.{ShowsAll}
 use Rattle.h5w_playing.proofs.ShowLemmas.{Shown, more_shown, none_shown}
 

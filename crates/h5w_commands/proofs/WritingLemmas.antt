@@ -11,10 +11,10 @@ use Rattle.h5w_model.specs.declared.reply.Reply.{Reply}
 use Rattle.h5w_model.specs.declared.reply.Reply.TheVariants as replies
 use Rattle.h5w_space.specs.declared.Full.{Full}
 use Rattle.h5w_creation_laws.specs.CreatedFiles.{created_log}
-use Rattle.h5w_session.specs.Creations.{log_of}
+use Rattle.h5w_writer.specs.Creations.{log_of}
 use Rattle.h5w_form.specs.NewFiles.{new_file}
-use Rattle.h5w_session.specs.Refusals.{IsFullFor}
-use Rattle.h5w_session.proofs.LawLemmas.{standing_laws}
+use Rattle.h5w_writer.specs.Refusals.{IsFullFor}
+use Rattle.h5w_writer.proofs.LawLemmas.{standing_laws}
 use Rattle.h5w_options.specs.declared.options.Options.{Options}
 use Rattle.h5w_input.specs.Words.{line_of_script}
 use Rattle.h5w_text.specs.declared.error.ErrorLine.{ErrorLine}
@@ -23,9 +23,9 @@ use Rattle.h5w_input.specs.declared.script.ScriptLine.{ScriptLine}
 use Rattle.h5w_input.specs.declared.script.ScriptLine.TheVariants as script_lines
 use Rattle.h5w_core.specs.Worlds.{HaveOneLog, IsNewWorld, StandsFor, WorldView, full_reply, logged, rules_of}
 use Rattle.h5w_core.proofs.StateLemmas.{load_of-log}
-use Rattle.h5w_session.proofs.PastLemmas.{spent_in-events}
+use Rattle.h5w_writer.proofs.PastLemmas.{spent_in-events}
 use Rattle.h5w_stop.specs.Sweeps.{Does, Rest, no_rows, rest_after, rest_of}
-use Rattle.h5w_headline.specs.Showing.{showing}
+use Rattle.h5w_reader_laws.specs.Showing.{showing}
 use Rattle.h5w_stop.proofs.LineLemmas.{appended_done, do_more, rest_level, rest_more}
 use Rattle.h5w_commands.specs.Writing.{Follows, IsAmid, Refuses, ShowsAll, at_rest, error_of, first_error, line_error, writing, writing_rules}
 

@@ -4,7 +4,7 @@ use Rattle.h5w_model.specs.Causes.{Rose}
 use Rattle.h5w_model.specs.Lawful.{Line}
 use Rattle.h5w_model.specs.Logs.{Log, hist}
 use Rattle.h5w_model.specs.Prefixed.{Held, Prefixed}
-use Rattle.h5w_session.specs.Creations.{log_of}
+use Rattle.h5w_writer.specs.Creations.{log_of}
 use Rattle.h5w_form.specs.NewFiles.{new_file}
 use Rattle.h5w_options.specs.declared.options.Options.{Options}
 use Rattle.h5w_stop.specs.Outcomes.{AreRuns}

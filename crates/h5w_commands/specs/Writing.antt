@@ -7,17 +7,17 @@ use Rattle.h5w_model.specs.declared.reply.Reply.{Reply}
 use Rattle.h5w_model.specs.declared.reply.Reply.TheVariants as replies
 use Rattle.h5w_space.specs.declared.Full.{Full}
 use Rattle.h5w_creation_laws.specs.CreatedFiles.{created_writes}
-use Rattle.h5w_session.specs.Creations.{log_of}
+use Rattle.h5w_writer.specs.Creations.{log_of}
 use Rattle.h5w_form.specs.NewFiles.{new_file}
-use Rattle.h5w_session.specs.Refusals.{IsFullFor}
-use Rattle.h5w_session.specs.Sessions.{Session}
-use Rattle.h5w_session.specs.Stands.{Stands}
+use Rattle.h5w_writer.specs.Refusals.{IsFullFor}
+use Rattle.h5w_writer.specs.Sessions.{Session}
+use Rattle.h5w_writer.specs.Stands.{Stands}
 use Rattle.h5w_options.specs.declared.options.Options.{Options}
 use Rattle.h5w_text.specs.declared.error.ErrorLine.{ErrorLine}
 use Rattle.h5w_text.specs.declared.error.ErrorLine.TheVariants as errors
 use Rattle.h5w_core.specs.Worlds.{HaveOneLog, StandsFor, WorldView, rules_for, rules_of}
 use Rattle.h5w_stop.specs.Sweeps.{DoAll, Rest, no_rows, rest_after, rest_of}
-use Rattle.h5w_headline.specs.Showing.{showing}
+use Rattle.h5w_reader_laws.specs.Showing.{showing}
 use Rattle.h5w_playing.specs.Answers.{play_line_of}
 
 -- the rules of a script on a file that is created by these options

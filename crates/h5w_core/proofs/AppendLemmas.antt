@@ -8,15 +8,15 @@ use Rattle.h5w_model.specs.Lawful.{Rules, ScriptState, AppendAllowed, adds, appe
 use Rattle.h5w_model.specs.declared.event.Event.TheVariants as events
 use Rattle.h5w_model.specs.declared.reply.Reply.{Reply}
 use Rattle.h5w_model.specs.declared.reply.Reply.TheVariants as replies
-use Rattle.h5w_polling.specs.Polling.{Polling}
-use Rattle.h5w_polling.specs.Scripts.{AllPoll}
-use Rattle.h5w_polling.proofs.ScriptLemmas.{writer_line_laws}
-use Rattle.h5w_session.specs.Refusals.{append_refusal, chunks_refusal}
-use Rattle.h5w_session.specs.Sessions.{AddsValues, Session, chunk_limit, chunks_with, cutting_of, rows_of}
-use Rattle.h5w_session.specs.Stands.{Stands}
-use Rattle.h5w_session.specs.declared.refusal.AppendError.{AppendError}
-use Rattle.h5w_session.specs.declared.refusal.AppendError.TheVariants as errors
-use Rattle.h5w_session.proofs.LawLemmas.{standing_laws}
+use Rattle.h5w_script_laws.specs.Polling.{Polling}
+use Rattle.h5w_script_laws.specs.Scripts.{AllPoll}
+use Rattle.h5w_script_laws.proofs.ScriptLemmas.{writer_line_laws}
+use Rattle.h5w_writer.specs.Refusals.{append_refusal, chunks_refusal}
+use Rattle.h5w_writer.specs.Sessions.{AddsValues, Session, chunk_limit, chunks_with, cutting_of, rows_of}
+use Rattle.h5w_writer.specs.Stands.{Stands}
+use Rattle.h5w_writer.specs.declared.refusal.AppendError.{AppendError}
+use Rattle.h5w_writer.specs.declared.refusal.AppendError.TheVariants as errors
+use Rattle.h5w_writer.proofs.LawLemmas.{standing_laws}
 use Rattle.h5w_core.specs.Worlds.{AreRowsBy, WorldView, HaveOneLog, IsStateOf, Steps, polling_by, polling_of, rules_of}
 use Rattle.h5w_core.proofs.StateLemmas.{columns_of, in_rows, load_of-log, more_rows, new_now, rules_by, some_columns}
 use Rattle.h5w_core.proofs.WorldLemmas.{world_of, changed, replaced, with_session}
@@ -25,7 +25,7 @@ use Rattle.h5w_image.specs.View.{Same}
 use Rattle.h5w_reader.specs.declared.reader.ReaderCore.{ReaderCore}
 use Rattle.h5w_core.specs.Readers.{reader_at}
 use Rattle.h5w_steady.specs.Steady.{steady}
-use Rattle.h5w_session.proofs.PastLemmas.{spent_in-events}
+use Rattle.h5w_writer.proofs.PastLemmas.{spent_in-events}
 
 -- what is answered to a refusal, and where nothing is refused
 abbrev pub append_answer : Option AppendError → ℕ → Reply

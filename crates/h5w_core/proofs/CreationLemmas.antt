@@ -8,19 +8,19 @@ use Rattle.h5w_model.specs.declared.piece.Write.{Write}
 use Rattle.h5w_model.proofs.ImageLemmas.{image-push}
 use Rattle.h5w_image.specs.Memory.{MemView, fresh}
 use Rattle.h5w_image.specs.View.{Same, Wrote}
-use Rattle.h5w_polling.specs.Polling.{MayPoll}
+use Rattle.h5w_script_laws.specs.Polling.{MayPoll}
 use Rattle.h5w_model.specs.Unfinished.{Reader}
 use Rattle.h5w_reader.specs.declared.reader.ReaderCore.{ReaderCore}
 use Rattle.h5w_options.specs.Options.{AreOptions}
 use Rattle.h5w_options.specs.declared.options.Options.{Options}
 use Rattle.h5w_creation_laws.specs.CreatedFiles.{block_write, created_blocks, created_log, created_writes}
-use Rattle.h5w_session.specs.Creations.{IsCreated}
+use Rattle.h5w_writer.specs.Creations.{IsCreated}
 use Rattle.h5w_form.specs.NewFiles.{new_file}
 use Rattle.h5w_form.proofs.OptionLemmas.{creatable}
-use Rattle.h5w_session.specs.Room.{HasRoomFor}
-use Rattle.h5w_session.specs.Sessions.{Session, AfterPiece, cutting_of}
-use Rattle.h5w_session.specs.Stands.{Stands}
-use Rattle.h5w_session.proofs.LawLemmas.{standing_laws}
+use Rattle.h5w_writer.specs.Room.{HasRoomFor}
+use Rattle.h5w_writer.specs.Sessions.{Session, AfterPiece, cutting_of}
+use Rattle.h5w_writer.specs.Stands.{Stands}
+use Rattle.h5w_writer.proofs.LawLemmas.{standing_laws}
 use Rattle.h5w_core.specs.Creation.{Creates}
 use Rattle.h5w_core.specs.Readers.{placed, reader_at}
 use Rattle.h5w_steady.specs.Steady.{steady}
@@ -28,8 +28,8 @@ use Rattle.h5w_core.specs.Worlds.{HaveOneLog, HoldsTogether, IsNewWorld, nobody,
 use Rattle.h5w_core.proofs.ShowLemmas.{after_facts, same_cutting, still_piece}
 use Rattle.h5w_core.proofs.StateLemmas.{new_now}
 use Rattle.h5w_core.proofs.WorldLemmas.{world_of}
-use Rattle.h5w_session.proofs.PastLemmas.{spent_in-events}
-use Rattle.h5w_session.proofs.StateLemmas.{some_is}
+use Rattle.h5w_writer.proofs.PastLemmas.{spent_in-events}
+use Rattle.h5w_writer.proofs.StateLemmas.{some_is}
 
 -- how many they are
 abbrev pub total : Options → ℕ

@@ -10,25 +10,25 @@ use Rattle.h5w_model.specs.declared.piece.Write.{Write}
 use Rattle.h5w_model.specs.declared.memory.OutOfMemory.{OutOfMemory}
 use Rattle.h5w_model.specs.declared.reply.Reply.{Reply}
 use Rattle.h5w_model.specs.declared.reply.Reply.TheVariants as replies
-use Rattle.h5w_polling.specs.Polling.{Polling}
-use Rattle.h5w_polling.specs.Scripts.{AllPoll, Readers}
-use Rattle.h5w_polling.proofs.EventLemmas.{counts_same, goes_on_still, polls_on}
-use Rattle.h5w_polling.proofs.ScriptLemmas.{all_kept}
+use Rattle.h5w_script_laws.specs.Polling.{Polling}
+use Rattle.h5w_script_laws.specs.Scripts.{AllPoll, Readers}
+use Rattle.h5w_script_laws.proofs.EventLemmas.{counts_same, goes_on_still, polls_on}
+use Rattle.h5w_script_laws.proofs.ScriptLemmas.{all_kept}
 use Rattle.h5w_space.specs.declared.Full.{Full}
 use Rattle.h5w_image.specs.Memory.{MemView}
 use Rattle.h5w_image.specs.View.{Same}
 use Rattle.h5w_reader.specs.declared.reader.ReaderCore.{ReaderCore}
-use Rattle.h5w_session.specs.Flushes.{SameBut}
-use Rattle.h5w_session.specs.Sessions.{Session, TakesRows, cutting_of}
-use Rattle.h5w_session.specs.Sessions as sessions
-use Rattle.h5w_session.specs.Refusals.{IsFullFor, IsSpace, flush_refusal}
-use Rattle.h5w_session.specs.Loads.{NoPlace}
-use Rattle.h5w_session.specs.Stands.{Stands}
-use Rattle.h5w_session.specs.declared.refusal.FlushError.{FlushError}
-use Rattle.h5w_session.specs.declared.refusal.FlushError.TheVariants as errors
-use Rattle.h5w_session.specs.Past.{IsNew}
-use Rattle.h5w_session.proofs.LawLemmas.{standing_laws}
-use Rattle.h5w_session.proofs.PastLemmas.{new_end, spent_in-events}
+use Rattle.h5w_writer.specs.Flushes.{SameBut}
+use Rattle.h5w_writer.specs.Sessions.{Session, TakesRows, cutting_of}
+use Rattle.h5w_writer.specs.Sessions as sessions
+use Rattle.h5w_writer.specs.Refusals.{IsFullFor, IsSpace, flush_refusal}
+use Rattle.h5w_writer.specs.Loads.{NoPlace}
+use Rattle.h5w_writer.specs.Stands.{Stands}
+use Rattle.h5w_writer.specs.declared.refusal.FlushError.{FlushError}
+use Rattle.h5w_writer.specs.declared.refusal.FlushError.TheVariants as errors
+use Rattle.h5w_writer.specs.Past.{IsNew}
+use Rattle.h5w_writer.proofs.LawLemmas.{standing_laws}
+use Rattle.h5w_writer.proofs.PastLemmas.{new_end, spent_in-events}
 use Rattle.h5w_core.specs.Readers.{reader_at}
 use Rattle.h5w_steady.specs.Steady.{steady}
 use Rattle.h5w_core.specs.Worlds.{WorldView, HaveOneLog, IsStateOf, Steps, full_reply, polling_by, polling_of, rules_of}

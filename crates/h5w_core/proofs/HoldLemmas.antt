@@ -12,13 +12,13 @@ use Rattle.h5w_model.specs.declared.reply.Reply.TheVariants as replies
 use Rattle.h5w_image.specs.Memory.{MemView}
 use Rattle.h5w_image.specs.View.{Same, Wrote}
 use Rattle.h5w_reader.specs.declared.reader.ReaderCore.{ReaderCore}
-use Rattle.h5w_session.specs.Refusals.{flush_refusal}
-use Rattle.h5w_session.specs.Room.{HasRoomFor}
-use Rattle.h5w_session.specs.Flushes.{SameBut}
-use Rattle.h5w_session.specs.Sessions.{Session, AfterPiece, TakesRows, cutting_of, stopped_of}
-use Rattle.h5w_session.specs.Stands.{Stands}
-use Rattle.h5w_session.specs.declared.refusal.AppendError.{AppendError}
-use Rattle.h5w_session.specs.declared.refusal.FlushError.{FlushError}
+use Rattle.h5w_writer.specs.Refusals.{flush_refusal}
+use Rattle.h5w_writer.specs.Room.{HasRoomFor}
+use Rattle.h5w_writer.specs.Flushes.{SameBut}
+use Rattle.h5w_writer.specs.Sessions.{Session, AfterPiece, TakesRows, cutting_of, stopped_of}
+use Rattle.h5w_writer.specs.Stands.{Stands}
+use Rattle.h5w_writer.specs.declared.refusal.AppendError.{AppendError}
+use Rattle.h5w_writer.specs.declared.refusal.FlushError.{FlushError}
 use Rattle.h5w_steady.specs.Steady.{steady}
 use Rattle.h5w_core.specs.Worlds.{AreRowsBy, HaveOneLog, HoldsMore, HoldsTogether, IsStateOf, StandsFor, Steps, WorldView, logged, rules_of}
 use Rattle.h5w_core.proofs.AppendLemmas.{AppendTells, append_done}

@@ -5,12 +5,12 @@ use Rattle.h5w_model.specs.Prefixed.{image_at, root_address}
 use Rattle.h5w_model.specs.Programs.{Visit, visits}
 use Rattle.h5w_model.specs.Tables.{limit_of}
 use Rattle.h5w_model.specs.Logs.{Log}
-use Rattle.h5w_headline.specs.Bounds.{looks_in}
-use Rattle.h5w_polling.specs.Premises.{LogHolds}
-use Rattle.h5w_session.specs.Past.{IsNew}
-use Rattle.h5w_session.specs.Sessions.{chunk_limit}
-use Rattle.h5w_session.specs.Stands.{Stands}
-use Rattle.h5w_session.proofs.LawLemmas.{shown_laws, standing_laws}
+use Rattle.h5w_reader_laws.specs.Bounds.{looks_in}
+use Rattle.h5w_script_laws.specs.Premises.{LogHolds}
+use Rattle.h5w_writer.specs.Past.{IsNew}
+use Rattle.h5w_writer.specs.Sessions.{chunk_limit}
+use Rattle.h5w_writer.specs.Stands.{Stands}
+use Rattle.h5w_writer.proofs.LawLemmas.{shown_laws, standing_laws}
 use Rattle.h5w_core.specs.Worlds.{WorldView, polling_of}
 use Rattle.h5w_core.proofs.StateLemmas.{columns_of, some_columns}
 

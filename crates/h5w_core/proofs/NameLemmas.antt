@@ -2,10 +2,10 @@
 use Rattle.std.proofs.Common.{◌≡◌, ℕ, List, [], ◌∷◌, ℤ, Result, Ok, Err, refl, ap}
 use Rattle.std.specs.Result.{OnOk, OnErr}
 use Rattle.h5w_model.specs.declared.piece.Write.{Write}
-use Rattle.h5w_session.specs.Flushes.{SameBut}
-use Rattle.h5w_session.specs.Sessions.{AddsValues, AfterPiece, Session, TakesRows}
-use Rattle.h5w_session.specs.declared.refusal.AppendError.{AppendError}
-use Rattle.h5w_session.specs.declared.refusal.FlushError.{FlushError}
+use Rattle.h5w_writer.specs.Flushes.{SameBut}
+use Rattle.h5w_writer.specs.Sessions.{AddsValues, AfterPiece, Session, TakesRows}
+use Rattle.h5w_writer.specs.declared.refusal.AppendError.{AppendError}
+use Rattle.h5w_writer.specs.declared.refusal.FlushError.{FlushError}
 use Rattle.h5w_core.proofs.ShowLemmas.{after_facts}
 
 pub append_named : (s t : Session) (vs : List ℤ) (r : Result ℕ AppendError) → OnOk r (AddsValues s vs t) → OnErr r (t ≡ s) → t.name ≡ s.name

@@ -9,7 +9,7 @@ use Rattle.h5w_model.specs.Calls.{rows_seen, values_call}
 use Rattle.h5w_model.specs.Unfinished.{Unfinished, rows_left, values_left, wanted, fed_left, values_program, Reader, with_left}
 use Rattle.h5w_model.specs.declared.refusal.ReadError.{ReadError}
 use Rattle.h5w_model.specs.declared.reply.Reply.TheVariants as replies
-use Rattle.h5w_polling.specs.Laws.{reply_to, after_look}
+use Rattle.h5w_script_laws.specs.Laws.{reply_to, after_look}
 use Rattle.h5w_reader.specs.Readers.{BegunRead, read_refusal}
 use Rattle.h5w_reader.specs.declared.step.ReadBegin.{ReadBegin}
 use Rattle.h5w_reader.specs.declared.step.ReadBegin.TheVariants as begins

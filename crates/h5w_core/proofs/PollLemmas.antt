@@ -10,12 +10,12 @@ use Rattle.h5w_model.specs.Unfinished.{Unfinished, values_left, next_look_of, wa
 use Rattle.h5w_model.specs.Lawful.{Line, opens, refreshes, reads, looks, ScriptState, ReaderState, Calling, Allowed, next_state, reader_in, put_reader}
 use Rattle.h5w_model.specs.declared.reply.Reply.{Reply}
 use Rattle.h5w_model.specs.declared.reply.Reply.TheVariants as replies
-use Rattle.h5w_polling.specs.Polling.{Polling, CallPolls, MayPoll, Wants}
-use Rattle.h5w_polling.specs.Premises.{LogHolds}
-use Rattle.h5w_polling.specs.Laws.{reading, reply_to, after_look}
-use Rattle.h5w_polling.specs.Scripts.{AllPoll, Moves, Polled, Readers, Refuses, looked_now, and_reader}
-use Rattle.h5w_polling.proofs.LookLemmas.{look_laws}
-use Rattle.h5w_polling.proofs.ScriptLemmas.{begin_line_laws, look_line_laws}
+use Rattle.h5w_script_laws.specs.Polling.{Polling, CallPolls, MayPoll, Wants}
+use Rattle.h5w_script_laws.specs.Premises.{LogHolds}
+use Rattle.h5w_script_laws.specs.Laws.{reading, reply_to, after_look}
+use Rattle.h5w_script_laws.specs.Scripts.{AllPoll, Moves, Polled, Readers, Refuses, looked_now, and_reader}
+use Rattle.h5w_script_laws.proofs.LookLemmas.{look_laws}
+use Rattle.h5w_script_laws.proofs.ScriptLemmas.{begin_line_laws, look_line_laws}
 use Rattle.h5w_reader.specs.Readers.{reader_rules}
 use Rattle.h5w_core.specs.Readers.{LookGives, LooksTo, LookReplies, CallReplies, OpenGives, ReadGives, ReadLooks, ReadsTo, ReadsPast, ReadsNothing, ReadBegins, RefreshGives, RefreshesTo, looked, reader_at}
 use Rattle.h5w_core.specs.Worlds.{WorldView, IsStateOf, StandsFor, polling_of}

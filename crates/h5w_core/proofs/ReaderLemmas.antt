@@ -16,13 +16,13 @@ use Rattle.h5w_model.specs.declared.reply.Reply.{Reply}
 use Rattle.h5w_image.specs.Memory.{MemView}
 use Rattle.h5w_image.specs.View.{Same}
 use Rattle.h5w_image.proofs.ViewLemmas.{same_itself}
-use Rattle.h5w_polling.specs.Polling.{Polling, CallPolls, MayPoll, now}
-use Rattle.h5w_polling.specs.Scripts.{AllPoll, Readers}
-use Rattle.h5w_polling.proofs.EventLemmas.{knows_later}
-use Rattle.h5w_polling.proofs.PutLemmas.{put_other}
+use Rattle.h5w_script_laws.specs.Polling.{Polling, CallPolls, MayPoll, now}
+use Rattle.h5w_script_laws.specs.Scripts.{AllPoll, Readers}
+use Rattle.h5w_script_laws.proofs.EventLemmas.{knows_later}
+use Rattle.h5w_script_laws.proofs.PutLemmas.{put_other}
 use Rattle.h5w_reader.specs.Readers.{reader_rules}
 use Rattle.h5w_reader.specs.declared.reader.ReaderCore.{ReaderCore}
-use Rattle.h5w_session.specs.Sessions.{Session}
+use Rattle.h5w_writer.specs.Sessions.{Session}
 use Rattle.h5w_core.specs.Readers.{LookGives, LookReplies, OpenGives, ReadGives, ReadLooks, RefreshGives, ended, placed, reader_at}
 use Rattle.h5w_steady.specs.Steady.{steady}
 use Rattle.h5w_core.specs.Worlds.{HaveOneLog, HoldsTogether, IsKept, Steps, WorldView, polling_of}

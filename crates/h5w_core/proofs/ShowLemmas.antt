@@ -9,13 +9,13 @@ use Rattle.h5w_model.specs.declared.piece.Write.{Write}
 use Rattle.h5w_model.specs.declared.reply.Reply.{Reply}
 use Rattle.h5w_model.specs.declared.reply.Reply.TheVariants as replies
 use Rattle.h5w_model.proofs.ImageLemmas.{image-push}
-use Rattle.h5w_polling.specs.Polling.{Polling, now}
-use Rattle.h5w_polling.specs.Scripts.{AllPoll}
-use Rattle.h5w_polling.proofs.ScriptLemmas.{writer_line_laws}
+use Rattle.h5w_script_laws.specs.Polling.{Polling, now}
+use Rattle.h5w_script_laws.specs.Scripts.{AllPoll}
+use Rattle.h5w_script_laws.proofs.ScriptLemmas.{writer_line_laws}
 use Rattle.h5w_model.specs.Datasets.{Described}
-use Rattle.h5w_session.specs.Sessions.{Session, AfterPiece, Settles, cutting_of, rows_of}
-use Rattle.h5w_session.specs.Stands.{Stands}
-use Rattle.h5w_session.proofs.LawLemmas.{standing_laws}
+use Rattle.h5w_writer.specs.Sessions.{Session, AfterPiece, Settles, cutting_of, rows_of}
+use Rattle.h5w_writer.specs.Stands.{Stands}
+use Rattle.h5w_writer.proofs.LawLemmas.{standing_laws}
 use Rattle.h5w_core.specs.Worlds.{WorldView, HaveOneLog, IsStateOf, StandsFor, Steps, logged, polling_by, polling_of, rules_of, shown_world}
 use Rattle.h5w_core.proofs.StateLemmas.{in_rows, new_now, rules_by}
 use Rattle.h5w_core.proofs.WorldLemmas.{world_of, shown_is}
@@ -24,8 +24,8 @@ use Rattle.h5w_image.specs.View.{Wrote}
 use Rattle.h5w_reader.specs.declared.reader.ReaderCore.{ReaderCore}
 use Rattle.h5w_core.specs.Readers.{reader_at}
 use Rattle.h5w_steady.specs.Steady.{steady}
-use Rattle.h5w_session_laws.proofs.PieceLemmas.{freed_limit}
-use Rattle.h5w_session.proofs.PastLemmas.{spent_in-events}
+use Rattle.h5w_writer_laws.proofs.PieceLemmas.{freed_limit}
+use Rattle.h5w_writer.proofs.PastLemmas.{spent_in-events}
 
 -- ---- Nothing is pending
 

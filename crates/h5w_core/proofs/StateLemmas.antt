@@ -7,10 +7,10 @@ use Rattle.h5w_model.specs.Tables.{format_limits, limit_of}
 use Rattle.h5w_model.specs.Logs.{Log, Happening, and_now, appended, flushed, flushed_rows, load, touched_chunks}
 use Rattle.h5w_model.specs.Logs as logs
 use Rattle.h5w_model.specs.Lawful.{Rules, ScriptState, load_of, rows_in}
-use Rattle.h5w_session.specs.Past.{IsNew}
-use Rattle.h5w_session.specs.Sessions.{Session}
-use Rattle.h5w_session.specs.Stands.{Stands}
-use Rattle.h5w_session.proofs.LawLemmas.{standing_laws}
+use Rattle.h5w_writer.specs.Past.{IsNew}
+use Rattle.h5w_writer.specs.Sessions.{Session}
+use Rattle.h5w_writer.specs.Stands.{Stands}
+use Rattle.h5w_writer.proofs.LawLemmas.{standing_laws}
 use Rattle.h5w_core.specs.Worlds.{AreRowsBy}
 
 -- a new file's log stays one

@@ -5,8 +5,8 @@ use Rattle.h5w_model.specs.Lawful.{ScriptState, Allowed, line_of, next_state}
 use Rattle.h5w_model.specs.declared.event.Event.{Event}
 use Rattle.h5w_model.specs.declared.reply.Reply.{Reply}
 use Rattle.h5w_model.specs.declared.memory.OutOfMemory.{OutOfMemory}
-use Rattle.h5w_session.specs.Refusals.{IsFullFor}
-use Rattle.h5w_session.specs.Sessions.{Session}
+use Rattle.h5w_writer.specs.Refusals.{IsFullFor}
+use Rattle.h5w_writer.specs.Sessions.{Session}
 use Rattle.h5w_space.specs.declared.Full.{Full}
 use Rattle.h5w_core.specs.Worlds.{WorldView, HaveOneLog, Steps, full_reply, rules_of}
 

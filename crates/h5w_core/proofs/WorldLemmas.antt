@@ -5,10 +5,10 @@ use Rattle.h5w_model.specs.declared.piece.Write.{Write}
 use Rattle.h5w_model.proofs.ImageLemmas.{image-push}
 use Rattle.h5w_image.specs.Memory.{MemView}
 use Rattle.h5w_image.specs.View.{Same, Wrote}
-use Rattle.h5w_session.specs.Sessions.{Session}
+use Rattle.h5w_writer.specs.Sessions.{Session}
 use Rattle.h5w_reader.specs.declared.reader.ReaderCore.{ReaderCore}
 use Rattle.h5w_steady.specs.Steady.{steady}
-use Rattle.h5w_session.proofs.StateLemmas.{some_is}
+use Rattle.h5w_writer.proofs.StateLemmas.{some_is}
 use Rattle.h5w_core.specs.Worlds.{WorldView, shown_world}
 
 -- a world by its parts

@@ -4,12 +4,12 @@ use Rattle.h5w_model.specs.Images.{image}
 use Rattle.h5w_model.specs.Logs.{Log, appended, hist, spent}
 use Rattle.h5w_image.specs.Memory.{MemView}
 use Rattle.h5w_creation_laws.specs.CreatedFiles.{created_writes, described_of}
-use Rattle.h5w_session.specs.Creations.{log_of}
+use Rattle.h5w_writer.specs.Creations.{log_of}
 use Rattle.h5w_form.specs.NewFiles.{new_file}
-use Rattle.h5w_session.specs.Past.{IsNew}
-use Rattle.h5w_session.specs.Room.{HasRoomFor}
-use Rattle.h5w_session.specs.Sessions.{Session, cutting_of}
-use Rattle.h5w_session.specs.Stands.{Stands}
+use Rattle.h5w_writer.specs.Past.{IsNew}
+use Rattle.h5w_writer.specs.Room.{HasRoomFor}
+use Rattle.h5w_writer.specs.Sessions.{Session, cutting_of}
+use Rattle.h5w_writer.specs.Stands.{Stands}
 use Rattle.h5w_options.specs.declared.options.Options.{Options}
 use Rattle.h5w_steady.specs.Steady.{steady}
 

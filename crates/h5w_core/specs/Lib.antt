@@ -1,8 +1,8 @@
 pub use Rattle.h5w_model.specs.Logs
 pub use Rattle.h5w_model.specs.Lawful
 pub use Rattle.h5w_image.specs.View
-pub use Rattle.h5w_session.specs.Sessions
-pub use Rattle.h5w_session.specs.Stands
+pub use Rattle.h5w_writer.specs.Sessions
+pub use Rattle.h5w_writer.specs.Stands
 pub mod Readers
 pub mod Creation
 pub mod Worlds

@@ -6,7 +6,7 @@ use Rattle.h5w_model.specs.Calls.{rows_seen, values_call}
 use Rattle.h5w_model.specs.Unfinished.{Unfinished, values_left, next_look_of, fed_left, ReaderRules, Reader, with_left}
 use Rattle.h5w_model.specs.declared.reply.Reply.{Reply}
 use Rattle.h5w_model.specs.declared.reply.Reply.TheVariants as replies
-use Rattle.h5w_polling.specs.Laws.{refreshing, reading, reply_to, after_look}
+use Rattle.h5w_script_laws.specs.Laws.{refreshing, reading, reply_to, after_look}
 use Rattle.h5w_reader.specs.Cores.{reader}
 use Rattle.h5w_reader.specs.Readers.{new_reader, read_refusal}
 use Rattle.h5w_reader.specs.declared.reader.ReaderCore.{ReaderCore}

@@ -12,8 +12,8 @@ use Rattle.h5w_model.specs.declared.event.Event.TheVariants as events
 use Rattle.h5w_model.specs.declared.piece.Write.{Write}
 use Rattle.h5w_model.specs.declared.reply.Reply.{Reply}
 use Rattle.h5w_model.specs.declared.reply.Reply.TheVariants as replies
-use Rattle.h5w_polling.specs.Polling.{Polling, now}
-use Rattle.h5w_polling.specs.Scripts.{AllPoll}
+use Rattle.h5w_script_laws.specs.Polling.{Polling, now}
+use Rattle.h5w_script_laws.specs.Scripts.{AllPoll}
 use Rattle.h5w_image.specs.Memory.{MemView}
 use Rattle.h5w_model.specs.Unfinished.{Reader}
 use Rattle.h5w_reader.specs.Readers.{reader_rules}
@@ -23,14 +23,14 @@ use Rattle.h5w_space.specs.declared.Full.{Full}
 use Rattle.h5w_steady.specs.Steady.{steady}
 use Rattle.h5w_types.specs.Fields.{int_type_of}
 use Rattle.h5w_creation_laws.specs.CreatedFiles.{created_writes}
-use Rattle.h5w_session.specs.Creations.{log_of}
+use Rattle.h5w_writer.specs.Creations.{log_of}
 use Rattle.h5w_form.specs.NewFiles.{new_file}
-use Rattle.h5w_session.specs.Refusals.{append_refusal, flush_refusal}
-use Rattle.h5w_session.specs.Room.{HasRoomFor}
-use Rattle.h5w_session.specs.Flushes.{SameBut}
-use Rattle.h5w_session.specs.Sessions.{Session, chunk_limit, cutting_of}
-use Rattle.h5w_session.specs.Past.{IsNew}
-use Rattle.h5w_session.specs.Stands.{Stands}
+use Rattle.h5w_writer.specs.Refusals.{append_refusal, flush_refusal}
+use Rattle.h5w_writer.specs.Room.{HasRoomFor}
+use Rattle.h5w_writer.specs.Flushes.{SameBut}
+use Rattle.h5w_writer.specs.Sessions.{Session, chunk_limit, cutting_of}
+use Rattle.h5w_writer.specs.Past.{IsNew}
+use Rattle.h5w_writer.specs.Stands.{Stands}
 
 -- The session, the bytes of its image, the pieces that became visible, the oldest first, the most attempts of a
 -- reader's call, and the readers that were opened, by number.

@@ -10,10 +10,10 @@ ghost use Rattle.h5w_image.specs.View.{Wrote};
 ghost use Rattle.h5w_space.specs.declared.Full.{Full};
 ghost use Rattle.h5w_creation_laws.specs.CreatedFiles.{created_writes};
 ghost use Rattle.h5w_form.specs.NewFiles.{new_file};
-ghost use Rattle.h5w_session.specs.Refusals.{IsFullFor};
-ghost use Rattle.h5w_session.specs.Room.{HasRoomFor};
-ghost use Rattle.h5w_session.specs.Sessions.{AfterPiece, rows_of as session_rows};
-ghost use Rattle.h5w_session.specs.Stands.{Stands};
+ghost use Rattle.h5w_writer.specs.Refusals.{IsFullFor};
+ghost use Rattle.h5w_writer.specs.Room.{HasRoomFor};
+ghost use Rattle.h5w_writer.specs.Sessions.{AfterPiece, rows_of as session_rows};
+ghost use Rattle.h5w_writer.specs.Stands.{Stands};
 ghost use Rattle.h5w_core.specs.Readers.{IsCalling, MayRead, ended, reader_at};
 ghost use Rattle.h5w_steady.specs.Steady.{steady};
 ghost use Rattle.h5w_core.specs.Creation.{Creates};
@@ -24,7 +24,7 @@ use h5w_image::Journal;
 use h5w_model::{Event, OutOfMemory, Reply};
 use h5w_options::Options;
 use h5w_reader::ReaderCore;
-use h5w_session::{AppendError, FlushError, Full, WriterCore};
+use h5w_writer::{AppendError, FlushError, Full, WriterCore};
 use h5w_steady::SteadyImage;
 use std::alloc::Global;
 use std::marker::Model;
@@ -43,7 +43,7 @@ pub struct World {
 
 impl Model for World {
     ghost use Rattle.std.specs.Coded.{codes};
-    ghost use Rattle.h5w_session.specs.Codes.{tree_code};
+    ghost use Rattle.h5w_writer.specs.Codes.{tree_code};
     ghost use Rattle.h5w_reader.specs.contracts.reader.ReaderCore as core;
     ghost use Rattle.h5w_core.specs.Worlds.{HoldsTogether, WorldView};
 

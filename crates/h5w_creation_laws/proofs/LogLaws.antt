@@ -11,11 +11,11 @@ use Rattle.h5w_model.specs.declared.cell.IndexKind.TheVariants.{Array, Tree}
 use Rattle.h5w_model.specs.declared.piece.Write.{Write}
 use Rattle.h5w_model.proofs.ImageLemmas.{length-apply}
 use Rattle.h5w_space.specs.Space.{Space}
-use Rattle.h5w_steps.specs.Moments.{Represents}
-use Rattle.h5w_steps.specs.Logs.{Goes, image_now}
-use Rattle.h5w_steps.specs.Sessions.{Runs}
-use Rattle.h5w_steps.proofs.GoesLemmas.{begin_goes, reads_now}
-use Rattle.h5w_steps.proofs.SessionLaws.{goes_runs}
+use Rattle.h5w_step_laws.specs.Moments.{Represents}
+use Rattle.h5w_step_laws.specs.Logs.{Goes, image_now}
+use Rattle.h5w_step_laws.specs.Sessions.{Runs}
+use Rattle.h5w_step_laws.proofs.GoesLemmas.{begin_goes, reads_now}
+use Rattle.h5w_step_laws.proofs.SessionLaws.{goes_runs}
 use Rattle.h5w_flush_laws.specs.Knowledge.{KnownHeld}
 use Rattle.h5w_flush_laws.specs.Flushes.{IsBegun, Rests, shown_also}
 use Rattle.h5w_creation_laws.specs.CreatedFiles.{CreatedFile, IsCreatable, end_of, super_block, root_block, header_block, index_blocks, block_write, created_blocks, created_writes, created_moment, created_log, no_address}

@@ -14,8 +14,8 @@ use Rattle.h5w_cache.specs.Stores.{Store}
 use Rattle.h5w_cache.specs.StoreLaws.{Standing}
 use Rattle.h5w_header_laws.specs.Files.{LayoutInChunk0}
 use Rattle.h5w_header_laws.specs.Spelled.{IsSpellable}
-use Rattle.h5w_steps.specs.Moments.{Represents}
-use Rattle.h5w_steps.specs.Logs.{image_now}
+use Rattle.h5w_step_laws.specs.Moments.{Represents}
+use Rattle.h5w_step_laws.specs.Logs.{image_now}
 use Rattle.h5w_flush_laws.specs.Knowledge.{IsMap, KnownHeld}
 use Rattle.h5w_flush_laws.specs.Flushes.{IsBegun, Rests, shown_also}
 use Rattle.h5w_array_laws.specs.ArrayStores.{IsCreated}

@@ -9,8 +9,8 @@ use Rattle.h5w_model.specs.declared.refusal.ReadError.{ReadError}
 use Rattle.h5w_model.specs.declared.refusal.ReadError.TheVariants as reads
 use Rattle.h5w_laws.specs.Programs.{looks_on}
 use Rattle.h5w_laws.proofs.LookLemmas.{takes_on}
-use Rattle.h5w_headline.proofs.EndLemmas.{plain_rows}
-use Rattle.h5w_headline.proofs.StillLemmas.{still_refresh}
+use Rattle.h5w_reader_laws.proofs.EndLemmas.{plain_rows}
+use Rattle.h5w_reader_laws.proofs.StillLemmas.{still_refresh}
 use Rattle.h5w_reader.specs.declared.step.ReadBegin.TheVariants as begins
 use Rattle.h5w_reader.specs.declared.step.Step.TheVariants as steps
 use Rattle.h5w_text.specs.declared.error.ErrorLine.TheVariants as errors

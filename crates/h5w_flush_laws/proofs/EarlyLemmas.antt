@@ -6,21 +6,21 @@ use Rattle.h5w_model.specs.Tables.{format_limits}
 use Rattle.h5w_model.specs.Findings.{Used}
 use Rattle.h5w_model.specs.declared.piece.Write.{Write}
 use Rattle.h5w_model.proofs.ImageLemmas.{image-append, image-pieces, image-grows, length-apply, AllMiss-append, pieces-miss}
-use Rattle.h5w_visits.specs.Ranges.{Among, MissesBlocks, block_at}
-use Rattle.h5w_visits.proofs.HeaderLaws.{header_missed}
+use Rattle.h5w_visit_laws.specs.Ranges.{Among, MissesBlocks, block_at}
+use Rattle.h5w_visit_laws.proofs.HeaderLaws.{header_missed}
 use Rattle.h5w_space.specs.Space.{Space}
 use Rattle.h5w_header_laws.specs.Files.{chunk_0, LayoutInChunk0}
 use Rattle.h5w_header_laws.proofs.FileLaws.{layout_missed}
-use Rattle.h5w_steps.specs.Moments.{Moment, all_used, Represents, HasCells, chunk_of, cell_place}
-use Rattle.h5w_steps.specs.Steps.{unseen}
-use Rattle.h5w_steps.specs.Plans.{Plan, UnseenRange}
-use Rattle.h5w_steps.proofs.MomentLemmas.{inside, cells_missed, in_header}
-use Rattle.h5w_steps.proofs.StepRepresents.{unseen_represents, blocks_missed}
-use Rattle.h5w_steps.proofs.PlanLaws.{plans_join, free_place, EachMisses}
+use Rattle.h5w_step_laws.specs.Moments.{Moment, all_used, Represents, HasCells, chunk_of, cell_place}
+use Rattle.h5w_step_laws.specs.Steps.{unseen}
+use Rattle.h5w_step_laws.specs.Plans.{Plan, UnseenRange}
+use Rattle.h5w_step_laws.proofs.MomentLemmas.{inside, cells_missed, in_header}
+use Rattle.h5w_step_laws.proofs.StepRepresents.{unseen_represents, blocks_missed}
+use Rattle.h5w_step_laws.proofs.PlanLaws.{plans_join, free_place, EachMisses}
 use Rattle.h5w_flush_laws.specs.Spaces.{AllLive, Taken, extent_of}
 use Rattle.h5w_flush_laws.specs.Knowledge.{HeldMissed, Holding}
 use Rattle.h5w_flush_laws.specs.Parts.{AllUnseen, block_writes, block_ranges}
-use Rattle.h5w_steps.proofs.PartLemmas.{disjoint_some}
+use Rattle.h5w_step_laws.proofs.PartLemmas.{disjoint_some}
 use Rattle.h5w_flush_laws.proofs.SpaceLemmas.{meet_nowhere, taken_apart}
 
 -- ---- The header stays

@@ -9,17 +9,17 @@ use Rattle.h5w_model.specs.Findings.{Used, the_superblock}
 use Rattle.h5w_model.specs.declared.cell.Key.{Key}
 use Rattle.h5w_model.specs.declared.piece.Write.{Write}
 use Rattle.h5w_model.proofs.ImageLemmas.{image-push, image-grows}
-use Rattle.h5w_visits.specs.Ranges.{Among, AreApart}
-use Rattle.h5w_visits.proofs.RangeLemmas.{among_left, among_right, among_split}
+use Rattle.h5w_visit_laws.specs.Ranges.{Among, AreApart}
+use Rattle.h5w_visit_laws.proofs.RangeLemmas.{among_left, among_right, among_split}
 use Rattle.h5w_space.specs.Space.{Space, IsLive}
 use Rattle.h5w_header_laws.specs.Files.{chunk_0, commit_at, LayoutInChunk0}
-use Rattle.h5w_steps.specs.Moments.{Moment, all_used, Represents}
-use Rattle.h5w_steps.specs.Steps.{Step}
-use Rattle.h5w_steps.specs.Plans.{Flush}
-use Rattle.h5w_steps.proofs.PartLemmas.{apart_sym, disjoint_two}
-use Rattle.h5w_steps.proofs.MomentLemmas.{in_behind, parts_of}
-use Rattle.h5w_steps.proofs.StepRepresents.{MissesEach, header_off}
-use Rattle.h5w_steps.proofs.PlanLaws.{flush_from, flush_leads}
+use Rattle.h5w_step_laws.specs.Moments.{Moment, all_used, Represents}
+use Rattle.h5w_step_laws.specs.Steps.{Step}
+use Rattle.h5w_step_laws.specs.Plans.{Flush}
+use Rattle.h5w_step_laws.proofs.PartLemmas.{apart_sym, disjoint_two}
+use Rattle.h5w_step_laws.proofs.MomentLemmas.{in_behind, parts_of}
+use Rattle.h5w_step_laws.proofs.StepRepresents.{MissesEach, header_off}
+use Rattle.h5w_step_laws.proofs.PlanLaws.{flush_from, flush_leads}
 use Rattle.h5w_flush_laws.specs.Spaces.{extent_of}
 use Rattle.h5w_flush_laws.specs.Knowledge.{HeldMissed, IsMap, KnownHeld, Knows}
 use Rattle.h5w_flush_laws.proofs.KnownLaws.{holding_behind}

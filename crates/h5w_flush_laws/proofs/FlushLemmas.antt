@@ -13,21 +13,21 @@ use Rattle.h5w_model.specs.declared.root.Super.{Super}
 use Rattle.h5w_model.specs.declared.piece.Write.{Write}
 use Rattle.h5w_model.proofs.ImageLemmas.{image-grows, Apart-part}
 use Rattle.h5w_laws.proofs.ProgramLemmas.{same_eval, same_visits}
-use Rattle.h5w_visits.specs.Ranges.{Among, AllAmong, AllEndBy, AreApart, Disjoint, MissesBlocks, blocks_of}
-use Rattle.h5w_visits.specs.Indexes.{IsBehind, behind_visit}
-use Rattle.h5w_visits.specs.Needed.{AreFew}
-use Rattle.h5w_visits.specs.Headers.{IsSized}
-use Rattle.h5w_visits.proofs.RangeLemmas.{among_left, among_right, among_split}
-use Rattle.h5w_visits.proofs.IndexLaws.{visited_behind, place_same}
-use Rattle.h5w_visits.proofs.NeededLaws.{table_laws}
+use Rattle.h5w_visit_laws.specs.Ranges.{Among, AllAmong, AllEndBy, AreApart, Disjoint, MissesBlocks, blocks_of}
+use Rattle.h5w_visit_laws.specs.Indexes.{IsBehind, behind_visit}
+use Rattle.h5w_visit_laws.specs.Needed.{AreFew}
+use Rattle.h5w_visit_laws.specs.Headers.{IsSized}
+use Rattle.h5w_visit_laws.proofs.RangeLemmas.{among_left, among_right, among_split}
+use Rattle.h5w_visit_laws.proofs.IndexLaws.{visited_behind, place_same}
+use Rattle.h5w_visit_laws.proofs.NeededLaws.{table_laws}
 use Rattle.h5w_space.specs.Space.{Space}
-use Rattle.h5w_steps.specs.Moments.{Moment, all_used, Represents, HasCells, row_of, column_of}
-use Rattle.h5w_steps.specs.Steps.{Ends, ends}
-use Rattle.h5w_steps.specs.Plans.{UnseenRange}
-use Rattle.h5w_steps.proofs.PartLemmas.{apart_sym, disjoint_part, disjoint_some}
-use Rattle.h5w_steps.proofs.MomentLemmas.{super_parts, few, header_of, in_behind, parts_of}
-use Rattle.h5w_steps.proofs.StepRepresents.{ends_missed}
-use Rattle.h5w_steps.proofs.PlanLaws.{plan_leads}
+use Rattle.h5w_step_laws.specs.Moments.{Moment, all_used, Represents, HasCells, row_of, column_of}
+use Rattle.h5w_step_laws.specs.Steps.{Ends, ends}
+use Rattle.h5w_step_laws.specs.Plans.{UnseenRange}
+use Rattle.h5w_step_laws.proofs.PartLemmas.{apart_sym, disjoint_part, disjoint_some}
+use Rattle.h5w_step_laws.proofs.MomentLemmas.{super_parts, few, header_of, in_behind, parts_of}
+use Rattle.h5w_step_laws.proofs.StepRepresents.{ends_missed}
+use Rattle.h5w_step_laws.proofs.PlanLaws.{plan_leads}
 use Rattle.h5w_flush_laws.specs.Knowledge.{HeldMissed, Knows}
 use Rattle.h5w_flush_laws.proofs.SpaceLemmas.{meet_nowhere}
 use Rattle.h5w_flush_laws.specs.Spaces.{extent_of}

@@ -10,16 +10,16 @@ use Rattle.h5w_model.specs.Findings.{Used, chunk_bytes}
 use Rattle.h5w_model.specs.Prefixed.{StaysDefined}
 use Rattle.h5w_model.specs.declared.cell.Key.{Key}
 use Rattle.h5w_model.specs.declared.piece.Write.{Write}
-use Rattle.h5w_visits.specs.Ranges.{AllWithin, Among, AllAmong, AllEndBy, AreApart, Disjoint, MissesBlocks}
-use Rattle.h5w_visits.specs.Indexes.{IsBehind, IsAnswered, behind_visit}
-use Rattle.h5w_visits.proofs.RangeLemmas.{among_left, among_right, among_split}
-use Rattle.h5w_visits.proofs.IndexLaws.{behind_missed}
-use Rattle.h5w_steps.specs.Moments.{Moment, all_used, Represents, HasCells}
-use Rattle.h5w_steps.specs.Steps.{LiesIn, OffAll, Clear, Step}
-use Rattle.h5w_steps.proofs.PartLemmas.{apart_sym}
-use Rattle.h5w_steps.proofs.MomentLemmas.{inside, lies_missed, header_of, in_behind, parts_of}
-use Rattle.h5w_steps.proofs.StepRepresents.{MissesEach, step_represents, fixed_missed}
-use Rattle.h5w_steps.proofs.WriterLaws.{naming_switches}
+use Rattle.h5w_visit_laws.specs.Ranges.{AllWithin, Among, AllAmong, AllEndBy, AreApart, Disjoint, MissesBlocks}
+use Rattle.h5w_visit_laws.specs.Indexes.{IsBehind, IsAnswered, behind_visit}
+use Rattle.h5w_visit_laws.proofs.RangeLemmas.{among_left, among_right, among_split}
+use Rattle.h5w_visit_laws.proofs.IndexLaws.{behind_missed}
+use Rattle.h5w_step_laws.specs.Moments.{Moment, all_used, Represents, HasCells}
+use Rattle.h5w_step_laws.specs.Steps.{LiesIn, OffAll, Clear, Step}
+use Rattle.h5w_step_laws.proofs.PartLemmas.{apart_sym}
+use Rattle.h5w_step_laws.proofs.MomentLemmas.{inside, lies_missed, header_of, in_behind, parts_of}
+use Rattle.h5w_step_laws.proofs.StepRepresents.{MissesEach, step_represents, fixed_missed}
+use Rattle.h5w_step_laws.proofs.WriterLaws.{naming_switches}
 use Rattle.h5w_flush_laws.specs.Knowledge.{AnswersBy}
 use Rattle.h5w_flush_laws.specs.Parts.{SaysInPlace, EachSays}
 use Rattle.h5w_flush_laws.proofs.KeyLemmas.{table_behind}

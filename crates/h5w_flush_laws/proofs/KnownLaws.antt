@@ -10,22 +10,22 @@ use Rattle.h5w_model.specs.declared.cell.Key.{Key}
 use Rattle.h5w_model.specs.declared.refusal.ReadError.{ReadError}
 use Rattle.h5w_model.specs.declared.piece.Write.{Write}
 use Rattle.h5w_model.proofs.ImageLemmas.{apply-grows, image-grows}
-use Rattle.h5w_visits.specs.Ranges.{Among, MissesBlocks}
-use Rattle.h5w_visits.specs.Indexes.{IsIndex}
-use Rattle.h5w_visits.proofs.RangeLemmas.{among_left, among_right}
-use Rattle.h5w_visits.proofs.IndexLaws.{index_missed}
+use Rattle.h5w_visit_laws.specs.Ranges.{Among, MissesBlocks}
+use Rattle.h5w_visit_laws.specs.Indexes.{IsIndex}
+use Rattle.h5w_visit_laws.proofs.RangeLemmas.{among_left, among_right}
+use Rattle.h5w_visit_laws.proofs.IndexLaws.{index_missed}
 use Rattle.h5w_space.specs.Space.{Apart, Space}
 use Rattle.h5w_space.specs.declared.Extent.{Extent}
-use Rattle.h5w_steps.specs.Moments.{Moment, all_used, Represents}
-use Rattle.h5w_steps.proofs.PartLemmas.{disjoint_some}
-use Rattle.h5w_steps.proofs.MomentLemmas.{inside, in_index}
-use Rattle.h5w_steps.proofs.StepRepresents.{ends_represents, ends_missed, unseen_represents, blocks_missed}
-use Rattle.h5w_steps.proofs.PlanLaws.{all_end, end_long, plan_leads}
+use Rattle.h5w_step_laws.specs.Moments.{Moment, all_used, Represents}
+use Rattle.h5w_step_laws.proofs.PartLemmas.{disjoint_some}
+use Rattle.h5w_step_laws.proofs.MomentLemmas.{inside, in_index}
+use Rattle.h5w_step_laws.proofs.StepRepresents.{ends_represents, ends_missed, unseen_represents, blocks_missed}
+use Rattle.h5w_step_laws.proofs.PlanLaws.{all_end, end_long, plan_leads}
 use Rattle.h5w_flush_laws.specs.Spaces.{extent_of}
 use Rattle.h5w_flush_laws.specs.Knowledge.{AnswersBy, Holding, IsMap, KnownHeld}
 use Rattle.h5w_flush_laws.specs.Spaces.{AllLive}
-use Rattle.h5w_steps.proofs.GoesLemmas.{holds_behind, moved_front}
-use Rattle.h5w_steps.proofs.MomentLemmas.{in_behind}
+use Rattle.h5w_step_laws.proofs.GoesLemmas.{holds_behind, moved_front}
+use Rattle.h5w_step_laws.proofs.MomentLemmas.{in_behind}
 use Rattle.h5w_flush_laws.specs.Parts.{AllUnseen, block_writes, block_ranges}
 use Rattle.h5w_flush_laws.specs.Flushes.{BeginKnows, EndKnown, EarlyBlocks, UnseenKnown, IsBegun}
 use Rattle.h5w_flush_laws.proofs.EarlyLemmas.{header_kept, unseen_stage, fresh_unseen, blocks_unseen, blocks_off_held, blocks_whole}

@@ -22,15 +22,15 @@ use Rattle.h5w_chunks.specs.declared.grid.ChunkPlace.{ChunkPlace}
 use Rattle.h5w_chunks.proofs.EarlyLemmas.{within_miss}
 use Rattle.h5w_chunks.proofs.Geometry.{band_of_number, number_parts, quotient_of, row_is, div_grows}
 use Rattle.h5w_chunks.proofs.KeyLemmas.{asked_is_touched, cell_before, cell_lines, cell_touched, first_line_grows, number_of}
-use Rattle.h5w_visits.specs.Ranges.{Among, AreApart, chunk_at}
-use Rattle.h5w_visits.specs.Indexes.{IsNamed}
-use Rattle.h5w_visits.specs.Headers.{IsSized}
-use Rattle.h5w_visits.specs.Needed.{AreFew}
+use Rattle.h5w_visit_laws.specs.Ranges.{Among, AreApart, chunk_at}
+use Rattle.h5w_visit_laws.specs.Indexes.{IsNamed}
+use Rattle.h5w_visit_laws.specs.Headers.{IsSized}
+use Rattle.h5w_visit_laws.specs.Needed.{AreFew}
 use Rattle.h5w_space.specs.Space.{Space}
 use Rattle.h5w_header_laws.specs.Files.{with_rows}
-use Rattle.h5w_steps.specs.Moments.{Moment, all_used, Represents, HasCells, row_of, column_of, chunk_of, cell_place}
-use Rattle.h5w_steps.proofs.MomentLemmas.{nested, cell_within, few, header_of, in_behind}
-use Rattle.h5w_steps.proofs.PlanLaws.{plan_leads}
+use Rattle.h5w_step_laws.specs.Moments.{Moment, all_used, Represents, HasCells, row_of, column_of, chunk_of, cell_place}
+use Rattle.h5w_step_laws.proofs.MomentLemmas.{nested, cell_within, few, header_of, in_behind}
+use Rattle.h5w_step_laws.proofs.PlanLaws.{plan_leads}
 use Rattle.h5w_flush_laws.specs.Spaces.{Taken}
 use Rattle.h5w_flush_laws.specs.Knowledge.{HeldMissed, IsAsked, IsOnce, Knows}
 use Rattle.h5w_flush_laws.specs.Parts.{Parts, AllUnseen, committed, flushed_to}

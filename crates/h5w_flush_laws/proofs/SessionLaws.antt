@@ -7,11 +7,11 @@ use Rattle.h5w_model.specs.declared.cell.Key.{Key}
 use Rattle.h5w_model.specs.declared.piece.Write.{Write}
 use Rattle.h5w_header_laws.specs.Files.{commit_at}
 use Rattle.h5w_space.specs.Space.{Space}
-use Rattle.h5w_steps.specs.Moments.{Moment}
-use Rattle.h5w_steps.specs.Logs.{image_now}
-use Rattle.h5w_steps.specs.Sessions.{Runs}
-use Rattle.h5w_steps.proofs.GoesLemmas.{image_pushed}
-use Rattle.h5w_steps.proofs.SessionLaws.{piece_runs, append_runs, flush_runs}
+use Rattle.h5w_step_laws.specs.Moments.{Moment}
+use Rattle.h5w_step_laws.specs.Logs.{image_now}
+use Rattle.h5w_step_laws.specs.Sessions.{Runs}
+use Rattle.h5w_step_laws.proofs.GoesLemmas.{image_pushed}
+use Rattle.h5w_step_laws.proofs.SessionLaws.{piece_runs, append_runs, flush_runs}
 use Rattle.h5w_flush_laws.specs.Knowledge.{HeldMissed, Knows}
 use Rattle.h5w_flush_laws.specs.Parts.{Parts, early_of, flushed_to, pieces_of, IsFlush}
 use Rattle.h5w_flush_laws.specs.Flushes.{Rests, shown_also, flush_planned, SessionLaws}

@@ -13,7 +13,7 @@ use Rattle.h5w_model.proofs.IntegerLemmas.{int_sizes, length-cell_bytes_of}
 use Rattle.h5w_model.proofs.NumberLemmas.{range-append-left, range-append-right}
 use Rattle.h5w_chunks.specs.Runs.{run_bytes}
 use Rattle.h5w_chunks.specs.Grids.{FitsType, cells_of, fill_cell}
-use Rattle.h5w_steps.proofs.SessionLaws.{lt-leb-false}
+use Rattle.h5w_step_laws.proofs.SessionLaws.{lt-leb-false}
 use Rattle.h5w_flush_laws.proofs.CellLemmas.{cell_by}
 
 -- ---- Zeros

@@ -1,6 +1,6 @@
 use crate::reader::ReaderState;
 use crate::several::SeveralState;
-use h5w_session::WriterCore;
+use h5w_writer::WriterCore;
 
 /// What a handle holds.
 #[derive(Drop)]

@@ -1,5 +1,5 @@
 use h5w_model::Write;
-use h5w_several_session::SeveralWriter;
+use h5w_several_writer::SeveralWriter;
 
 /// A session of several datasets of one file, and the pieces of the file's creation.
 #[derive(Drop)]

@@ -6,7 +6,7 @@ use Rattle.h5w_model.specs.Messages.{unsupported, ShapeFields, IntTypeFields, Fi
 use Rattle.h5w_model.specs.Datasets.{FoundMessage, Described, described, dataspace_of, or_refuse, body_of, first_of, is_shared, fill_of, is_filtered, shares_a_message, then_also, dataspace_kind, datatype_kind, fill_value_kind, layout_kind, filter_pipeline_kind}
 use Rattle.h5w_model.specs.declared.refusal.Unsupported.{Unsupported}
 use Rattle.h5w_laws.proofs.ResultLemmas.{then_ok, then_from, fails, passes}
-use Rattle.h5w_visits.proofs.DescribedLemmas.{ok_described}
+use Rattle.h5w_visit_laws.proofs.DescribedLemmas.{ok_described}
 use Rattle.h5w_header_laws.proofs.FoundLemmas.{KeepsKinds, replaced, replaced_keeps, replaced_same, first_map, first_other, first_is}
 use Rattle.h5w_header_laws.proofs.MessageLemmas.{is_space, shape_kept, layout_by_rows, layout_kept}
 

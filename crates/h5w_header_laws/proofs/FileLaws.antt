@@ -12,13 +12,13 @@ use Rattle.h5w_model.specs.declared.message.Msg.{Msg}
 use Rattle.h5w_model.proofs.HeaderLemmas.{messages_at-ok}
 use Rattle.h5w_laws.proofs.PlaceLemmas.{one_index_place}
 use Rattle.h5w_laws.proofs.ProgramLemmas.{same_eval}
-use Rattle.h5w_visits.specs.Ranges.{AllEndBy, MissesBlocks, Disjoint, block_at}
-use Rattle.h5w_visits.proofs.RangeLemmas.{missed_stay}
-use Rattle.h5w_visits.proofs.HeaderVisits.{used_of, looks_of, within_looks, view_missed, same_header}
-use Rattle.h5w_visits.proofs.HeaderLaws.{dataset_parts, dataset_looks}
-use Rattle.h5w_steps.specs.Moments.{Moment, Represents}
-use Rattle.h5w_steps.proofs.MomentLemmas.{inside}
-use Rattle.h5w_steps.proofs.PartLemmas.{disjoint_left, disjoint_right}
+use Rattle.h5w_visit_laws.specs.Ranges.{AllEndBy, MissesBlocks, Disjoint, block_at}
+use Rattle.h5w_visit_laws.proofs.RangeLemmas.{missed_stay}
+use Rattle.h5w_visit_laws.proofs.HeaderVisits.{used_of, looks_of, within_looks, view_missed, same_header}
+use Rattle.h5w_visit_laws.proofs.HeaderLaws.{dataset_parts, dataset_looks}
+use Rattle.h5w_step_laws.specs.Moments.{Moment, Represents}
+use Rattle.h5w_step_laws.proofs.MomentLemmas.{inside}
+use Rattle.h5w_step_laws.proofs.PartLemmas.{disjoint_left, disjoint_right}
 use Rattle.h5w_header_laws.specs.Commits.{with_rows_in, with_index_in}
 use Rattle.h5w_header_laws.specs.Files.{chunk_0, commit_at, with_rows, with_index, LayoutInChunk0, HeaderWritable, LayoutMissed, IsWritten, RowsCommitted, IndexCommitted, HeaderCommits, GrowingHeader, StartingHeader}
 use Rattle.h5w_header_laws.proofs.ChunkLemmas.{of_kind}

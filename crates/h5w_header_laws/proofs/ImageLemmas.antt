@@ -23,10 +23,10 @@ use Rattle.h5w_laws.proofs.ResultLemmas.{choice_ok, choice_from}
 use Rattle.h5w_laws.proofs.PrefixLemmas.{begins, header_view_found}
 use Rattle.h5w_laws.proofs.DatasetReads.{look_says}
 use Rattle.h5w_laws.proofs.SpliceLemmas.{WalkFound, walk_found}
-use Rattle.h5w_visits.specs.Ranges.{AllEndBy, MissesBlocks, Disjoint, block_at}
-use Rattle.h5w_visits.proofs.RangeLemmas.{missed_stay}
-use Rattle.h5w_visits.proofs.HeaderVisits.{used_of, looks_of, walk_walked, within_looks, view_whole}
-use Rattle.h5w_visits.proofs.HeaderLaws.{DatasetParts, dataset_checked}
+use Rattle.h5w_visit_laws.specs.Ranges.{AllEndBy, MissesBlocks, Disjoint, block_at}
+use Rattle.h5w_visit_laws.proofs.RangeLemmas.{missed_stay}
+use Rattle.h5w_visit_laws.proofs.HeaderVisits.{used_of, looks_of, walk_walked, within_looks, view_whole}
+use Rattle.h5w_visit_laws.proofs.HeaderLaws.{DatasetParts, dataset_checked}
 use Rattle.h5w_header_laws.specs.Commits.{IsCommitted}
 use Rattle.h5w_header_laws.specs.Files.{chunk_0}
 use Rattle.h5w_header_laws.proofs.SpliceLemmas.{IsOwnChange, with_messages, walk_changed}

@@ -18,10 +18,10 @@ use Rattle.h5w_model.proofs.LayoutLemmas.{layout_length_bound, layout_at-layout_
 use Rattle.h5w_laws.proofs.ResultLemmas.{choice_from}
 use Rattle.h5w_laws.proofs.PlaceLemmas.{one_index_place}
 use Rattle.h5w_laws.proofs.DatasetReads.{look_says}
-use Rattle.h5w_visits.specs.Ranges.{AllEndBy, block_at}
-use Rattle.h5w_visits.proofs.RangeLemmas.{ends_nil, ends_cons}
-use Rattle.h5w_visits.proofs.HeaderVisits.{view_whole, same_header}
-use Rattle.h5w_visits.proofs.HeaderLaws.{dataset_checked}
+use Rattle.h5w_visit_laws.specs.Ranges.{AllEndBy, block_at}
+use Rattle.h5w_visit_laws.proofs.RangeLemmas.{ends_nil, ends_cons}
+use Rattle.h5w_visit_laws.proofs.HeaderVisits.{view_whole, same_header}
+use Rattle.h5w_visit_laws.proofs.HeaderLaws.{dataset_checked}
 use Rattle.h5w_header_laws.specs.Files.{chunk_0}
 use Rattle.h5w_header_laws.specs.Spelled.{message, spelled_messages, spelled_header, IsSpellable, SpelledRead, SpelledStands}
 use Rattle.h5w_header_laws.proofs.CommitLaws.{rows_place_is, index_place_is, rows_there, index_there}

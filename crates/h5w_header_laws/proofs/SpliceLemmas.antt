@@ -14,7 +14,7 @@ use Rattle.h5w_model.specs.declared.refusal.ReadError.TheVariants as read_errors
 use Rattle.h5w_model.specs.declared.refusal.HeaderError.TheVariants as header_errors
 use Rattle.h5w_laws.proofs.ResultLemmas.{choice_ok, choice_from}
 use Rattle.h5w_laws.proofs.SpliceLemmas.{block_found, as_read}
-use Rattle.h5w_visits.proofs.HeaderVisits.{choice_looks, same_header}
+use Rattle.h5w_visit_laws.proofs.HeaderVisits.{choice_looks, same_header}
 use Rattle.h5w_header_laws.proofs.ChunkLemmas.{of_kind}
 use Rattle.h5w_header_laws.proofs.FoundLemmas.{in_image, some_found, and_false, and_true}
 

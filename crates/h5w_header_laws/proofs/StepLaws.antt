@@ -1,8 +1,8 @@
 -- The header piece of a flush as a safe step.
 use Rattle.std.proofs.Common.{◌≡◌, ◌*◌, ◌<◌, Some, None, refl, ap, sym, ◌∙◌, subst}
 use Rattle.h5w_model.specs.Datasets.{Described}
-use Rattle.h5w_visits.specs.Needed.{AreFew}
-use Rattle.h5w_steps.proofs.WriterLaws.{growing_commits, starting_commits}
+use Rattle.h5w_visit_laws.specs.Needed.{AreFew}
+use Rattle.h5w_step_laws.proofs.WriterLaws.{growing_commits, starting_commits}
 use Rattle.h5w_header_laws.specs.Files.{commit_at, HeaderCommits}
 use Rattle.h5w_header_laws.specs.Steps.{grown, GrowingStep, started, StartingStep}
 use Rattle.h5w_header_laws.proofs.FileLaws.{growing_header, starting_header}

@@ -10,10 +10,10 @@ use Rattle.h5w_model.specs.Findings.{Used, checked_dataset}
 use Rattle.h5w_model.specs.Prefixed.{SameDescribed, SameHeader}
 use Rattle.h5w_model.specs.declared.root.Super.{Super}
 use Rattle.h5w_model.specs.declared.piece.Write.{Write}
-use Rattle.h5w_visits.specs.Ranges.{MissesBlocks, Disjoint, block_at}
-use Rattle.h5w_visits.specs.Needed.{AreFew}
-use Rattle.h5w_steps.specs.Moments.{Moment, Represents}
-use Rattle.h5w_steps.specs.Steps.{InChunk0}
+use Rattle.h5w_visit_laws.specs.Ranges.{MissesBlocks, Disjoint, block_at}
+use Rattle.h5w_visit_laws.specs.Needed.{AreFew}
+use Rattle.h5w_step_laws.specs.Moments.{Moment, Represents}
+use Rattle.h5w_step_laws.specs.Steps.{InChunk0}
 
 -- chunk 0 of the dataset header at a place: what counts of a look at it
 abbrev pub chunk_0 : List ℕ → ℕ → List ℕ

@@ -9,7 +9,7 @@ use Rattle.h5w_model.specs.Tables.{Limits, limit_of, needed}
 use Rattle.h5w_model.specs.Findings.{checked_dataset}
 use Rattle.h5w_model.specs.declared.message.Msg.{Msg}
 use Rattle.h5w_model.specs.declared.root.Super.{Super}
-use Rattle.h5w_visits.specs.Ranges.{block_at}
+use Rattle.h5w_visit_laws.specs.Ranges.{block_at}
 use Rattle.h5w_header_laws.specs.Files.{chunk_0, LayoutInChunk0}
 
 abbrev pub message : ℕ → List ℕ → Msg

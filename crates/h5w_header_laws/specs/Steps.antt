@@ -5,10 +5,10 @@ use Rattle.h5w_model.specs.Programs.{eval, visits}
 use Rattle.h5w_model.specs.Datasets.{Described}
 use Rattle.h5w_model.specs.Tables.{in_place, table_of, needed_keys}
 use Rattle.h5w_model.specs.Findings.{Used, index_visit}
-use Rattle.h5w_visits.specs.Ranges.{Disjoint, blocks_of}
-use Rattle.h5w_visits.specs.Needed.{AreFew}
-use Rattle.h5w_steps.specs.Moments.{Moment, all_used, HasCells, Represents}
-use Rattle.h5w_steps.specs.Steps.{Step}
+use Rattle.h5w_visit_laws.specs.Ranges.{Disjoint, blocks_of}
+use Rattle.h5w_visit_laws.specs.Needed.{AreFew}
+use Rattle.h5w_step_laws.specs.Moments.{Moment, all_used, HasCells, Represents}
+use Rattle.h5w_step_laws.specs.Steps.{Step}
 use Rattle.h5w_header_laws.specs.Files.{commit_at, with_rows, with_index, LayoutInChunk0}
 
 -- a file with these rows, whose needed chunks have these addresses, and these values more

@@ -9,21 +9,21 @@ use Rattle.h5w_model.specs.declared.piece.Write.{Write}
 use Rattle.h5w_model.proofs.ImageLemmas.{range-apply_missed}
 use Rattle.h5w_model.specs.Findings.{Used, chunk_bytes}
 use Rattle.h5w_model.specs.declared.cell.IndexKind.TheVariants as kinds
-use Rattle.h5w_visits.specs.Ranges.{Among, block_at}
-use Rattle.h5w_visits.specs.Indexes.{behind_visit}
-use Rattle.h5w_visits.proofs.RangeLemmas.{among_left, among_right, among_split, ends_later}
-use Rattle.h5w_visits.proofs.IndexLaws.{index_by_end}
+use Rattle.h5w_visit_laws.specs.Ranges.{Among, block_at}
+use Rattle.h5w_visit_laws.specs.Indexes.{behind_visit}
+use Rattle.h5w_visit_laws.proofs.RangeLemmas.{among_left, among_right, among_split, ends_later}
+use Rattle.h5w_visit_laws.proofs.IndexLaws.{index_by_end}
 use Rattle.h5w_space.specs.Space.{Space}
 use Rattle.h5w_cache.specs.Stores.{Store, place_of}
 use Rattle.h5w_cache.specs.Plans.{bytes_in}
 use Rattle.h5w_laws.proofs.EndLemmas.{same_ranges}
-use Rattle.h5w_steps.specs.Moments.{Moment, Represents}
+use Rattle.h5w_step_laws.specs.Moments.{Moment, Represents}
 use Rattle.h5w_array_laws.proofs.FileLemmas.{same_place, some_end}
 use Rattle.h5w_array_laws.specs.ArrayImages.{StandsArray}
 use Rattle.h5w_array_laws.proofs.StandLemmas.{array_stays}
-use Rattle.h5w_array_flushes.specs.ArrayBegins as arrays
-use Rattle.h5w_array_flushes.proofs.ArrayFlushLemmas.{placed_range}
-use Rattle.h5w_array_flushes.proofs.ArrayBeginLemmas.{array_begins}
+use Rattle.h5w_array_flush_laws.specs.ArrayBegins as arrays
+use Rattle.h5w_array_flush_laws.proofs.ArrayFlushLemmas.{placed_range}
+use Rattle.h5w_array_flush_laws.proofs.ArrayBeginLemmas.{array_begins}
 use Rattle.h5w_flush_laws.specs.Flushes.{IsBegun}
 use Rattle.h5w_flush_laws.specs.Knowledge.{KnownHeld, Knows}
 use Rattle.h5w_flush_laws.specs.Parts.{SaysInPlace}

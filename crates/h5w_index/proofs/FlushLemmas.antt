@@ -7,8 +7,8 @@ use Rattle.h5w_model.specs.Images.{image}
 use Rattle.h5w_model.specs.Findings.{Used, chunk_bytes}
 use Rattle.h5w_model.specs.declared.cell.Key.{Key}
 use Rattle.h5w_model.specs.declared.piece.Write.{Write}
-use Rattle.h5w_visits.specs.Ranges.{AllEndBy, block_at}
-use Rattle.h5w_visits.proofs.RangeLemmas.{among_right}
+use Rattle.h5w_visit_laws.specs.Ranges.{AllEndBy, block_at}
+use Rattle.h5w_visit_laws.proofs.RangeLemmas.{among_right}
 use Rattle.h5w_space.specs.Space.{Apart, IsLive, Space}
 use Rattle.h5w_space.specs.declared.Extent.{Extent}
 use Rattle.h5w_cache.specs.StoreLaws.{Standing, range_of}
@@ -17,7 +17,7 @@ use Rattle.h5w_cache.specs.Blocks.{BlockView}
 use Rattle.h5w_cache.specs.Plans.{IsPlan, bytes_of}
 use Rattle.h5w_cache.proofs.FinishLemmas.{retired_end}
 use Rattle.h5w_cache.specs.declared.moves.Move.{Move}
-use Rattle.h5w_steps.specs.Moments.{Moment}
+use Rattle.h5w_step_laws.specs.Moments.{Moment}
 use Rattle.h5w_array_laws.proofs.WriteLemmas.{plan_copies as array_copies}
 use Rattle.h5w_array_laws.specs.ArrayPlans.{IsArrayPlan}
 use Rattle.h5w_array_laws.specs.ArrayStores as arrays
@@ -27,9 +27,9 @@ use Rattle.h5w_array_laws.specs.Parts.{Part, IsPart, header, index_block, length
 use Rattle.h5w_model.specs.Arrays.{eahd_len, eaib_len}
 use Rattle.h5w_model.specs.Tables.{in_leaf}
 use Rattle.h5w_model.specs.Trees.{bthd_bytes}
-use Rattle.h5w_array_flushes.specs.ArrayFlushes.{ArrayRests, IsArrayPart}
-use Rattle.h5w_array_flushes.proofs.ArrayLaws.{array_is_flush}
-use Rattle.h5w_array_flushes.proofs.ArrayRestLemmas.{array_rests_then, standing_freed}
+use Rattle.h5w_array_flush_laws.specs.ArrayFlushes.{ArrayRests, IsArrayPart}
+use Rattle.h5w_array_flush_laws.proofs.ArrayLaws.{array_is_flush}
+use Rattle.h5w_array_flush_laws.proofs.ArrayRestLemmas.{array_rests_then, standing_freed}
 use Rattle.h5w_flush_laws.specs.Spaces.{Taken, extent_of}
 use Rattle.h5w_flush_laws.specs.Knowledge.{Knows}
 use Rattle.h5w_flush_laws.specs.Parts.{IsFlush, block_writes, flushed_to, pieces_of}

@@ -13,28 +13,28 @@ use Rattle.h5w_model.specs.declared.report.FlushLine.{FlushLine}
 use Rattle.h5w_model.specs.declared.root.Super.{Super}
 use Rattle.h5w_laws.proofs.LogLemmas.{flushed_begins, length_hist, position_laws}
 use Rattle.h5w_creation_laws.specs.CreatedFiles.{CreatedFile, created_writes, described_of}
-use Rattle.h5w_session.specs.Loads.{NoPlace}
-use Rattle.h5w_session.specs.Refusals.{IsFullFor, IsSpace, append_refusal, chunks_refusal, flush_refusal}
-use Rattle.h5w_session.specs.Sessions.{AddsValues, AfterPiece, AreRows, IsNamed, Session, Settles, TakesRows, chunks_with, rows_of, with_rows}
-use Rattle.h5w_session.specs.Stands.{Stands}
-use Rattle.h5w_session.specs.declared.refusal.AppendError.{AppendError}
-use Rattle.h5w_session.specs.declared.refusal.AppendError.TheVariants as errors
-use Rattle.h5w_session.specs.declared.refusal.FlushError.{FlushError}
-use Rattle.h5w_session.specs.declared.refusal.FlushError.TheVariants as flushing
-use Rattle.h5w_session.proofs.FlushCalls.{takes_named}
-use Rattle.h5w_session.proofs.LawLemmas.{standing_laws, shown_laws}
-use Rattle.h5w_session.proofs.StandLemmas.{none_outside}
+use Rattle.h5w_writer.specs.Loads.{NoPlace}
+use Rattle.h5w_writer.specs.Refusals.{IsFullFor, IsSpace, append_refusal, chunks_refusal, flush_refusal}
+use Rattle.h5w_writer.specs.Sessions.{AddsValues, AfterPiece, AreRows, IsNamed, Session, Settles, TakesRows, chunks_with, rows_of, with_rows}
+use Rattle.h5w_writer.specs.Stands.{Stands}
+use Rattle.h5w_writer.specs.declared.refusal.AppendError.{AppendError}
+use Rattle.h5w_writer.specs.declared.refusal.AppendError.TheVariants as errors
+use Rattle.h5w_writer.specs.declared.refusal.FlushError.{FlushError}
+use Rattle.h5w_writer.specs.declared.refusal.FlushError.TheVariants as flushing
+use Rattle.h5w_writer.proofs.FlushCalls.{takes_named}
+use Rattle.h5w_writer.proofs.LawLemmas.{standing_laws, shown_laws}
+use Rattle.h5w_writer.proofs.StandLemmas.{none_outside}
 use Rattle.h5w_space.specs.declared.Full.{Full}
 use Rattle.h5w_shared.specs.Seats.{ImageId, SeatView}
 use Rattle.h5w_live_laws.specs.Lines.{rows_told}
 use Rattle.h5w_live_laws.proofs.LineLemmas.{agree_more, tells_more, values_more}
 use Rattle.h5w_live.specs.Writing.{HasAppended, HasFlushed, HasRoom, HasWritten, LacksPlace, StaysSeated, Writes, batch_refusal, cutting_for, too_many}
-use Rattle.h5w_headline.specs.Showing.{showing}
+use Rattle.h5w_reader_laws.specs.Showing.{showing}
 use Rattle.h5w_live.proofs.RowLemmas.{batches_more, rows_in_values, some_rows}
 use Rattle.h5w_live.proofs.WritingLemmas.{Shown, after_flush, is_new, put_behind, shown_stays}
 use Rattle.h5w_live.proofs.FlushedLemmas.{before_last, flushed_level, pieces_last, rows_all, rows_last}
-use Rattle.h5w_headline.proofs.ShowingLemmas.{appended_showing, flushed_showing, hist_showing}
-use Rattle.h5w_session_laws.proofs.PieceLemmas.{after_pending, none_some}
+use Rattle.h5w_reader_laws.proofs.ShowingLemmas.{appended_showing, flushed_showing, hist_showing}
+use Rattle.h5w_writer_laws.proofs.PieceLemmas.{after_pending, none_some}
 
 -- what is not too many is few
 few_of : (f : CreatedFile) (rows : ℕ) → too_many f rows ≡ None → needed_chunks (cutting_for f) rows ≤ limit_of format_limits f.index

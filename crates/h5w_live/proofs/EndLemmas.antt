@@ -13,19 +13,19 @@ use Rattle.h5w_model.specs.declared.report.FlushLine.{FlushLine}
 use Rattle.h5w_model.specs.declared.root.Super.{Super}
 use Rattle.h5w_laws.proofs.LogLemmas.{events_at_earlier, events_at_now, length_hist}
 use Rattle.h5w_creation_laws.specs.CreatedFiles.{CreatedFile, IsCreatable, block_write, created_log, created_writes, described_of, header_block, index_blocks, root_block, super_block}
-use Rattle.h5w_session.specs.Creations.{IsCreated, log_of}
-use Rattle.h5w_session.specs.Sessions.{AfterPiece, Session, cleared, closed_of, closed_root, with_rows}
-use Rattle.h5w_session.specs.Stands.{Stands}
+use Rattle.h5w_writer.specs.Creations.{IsCreated, log_of}
+use Rattle.h5w_writer.specs.Sessions.{AfterPiece, Session, cleared, closed_of, closed_root, with_rows}
+use Rattle.h5w_writer.specs.Stands.{Stands}
 use Rattle.h5w_shared.specs.Seats.{HasMadeRoom, ImageId, SeatView}
 use Rattle.h5w_live.specs.Reports.{before_close}
 use Rattle.h5w_live.specs.Writing.{HasClosed, HasFlushed, HasRoom, HasWritten}
-use Rattle.h5w_headline.specs.Showing.{showing}
+use Rattle.h5w_reader_laws.specs.Showing.{showing}
 use Rattle.h5w_live.proofs.WritingLemmas.{after_early, shown_stays}
 use Rattle.h5w_live.proofs.FlushedLemmas.{flushed_level, rows_all}
 use Rattle.h5w_live.proofs.BatchLemmas.{log_rows, rows_flushed}
 use Rattle.h5w_live.proofs.RowLemmas.{none_needed, rows_in_values}
-use Rattle.h5w_headline.proofs.ShowingLemmas.{appended_showing, events_among, flushed_showing, hist_showing}
-use Rattle.h5w_session_laws.proofs.PieceLemmas.{after_pending}
+use Rattle.h5w_reader_laws.proofs.ShowingLemmas.{appended_showing, events_among, flushed_showing, hist_showing}
+use Rattle.h5w_writer_laws.proofs.PieceLemmas.{after_pending}
 
 -- ---- The creation
 

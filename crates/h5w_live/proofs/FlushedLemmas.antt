@@ -9,8 +9,8 @@ use Rattle.h5w_model.specs.declared.piece.Write.{Write}
 use Rattle.h5w_model.specs.declared.report.FlushLine.{FlushLine}
 use Rattle.h5w_laws.proofs.LogLemmas.{events_at_earlier, flushed_begins, length_hist, rises_behind}
 use Rattle.h5w_live_laws.specs.Lines.{pieces_in, rows_told}
-use Rattle.h5w_headline.specs.Showing.{showing}
-use Rattle.h5w_headline.proofs.ShowingLemmas.{events_among, events_before, flushed_showing, shown_showing}
+use Rattle.h5w_reader_laws.specs.Showing.{showing}
+use Rattle.h5w_reader_laws.proofs.ShowingLemmas.{events_among, events_before, flushed_showing, shown_showing}
 
 -- ---- Rows
 

@@ -10,7 +10,7 @@ use Rattle.h5w_model.specs.declared.report.PollLine.{PollLine}
 use Rattle.h5w_image.specs.Memory.{JournalView}
 use Rattle.h5w_reader.specs.Readers.{reader_rules}
 use Rattle.h5w_creation_laws.specs.CreatedFiles.{CreatedFile, created_writes}
-use Rattle.h5w_session.specs.Sessions.{Session}
+use Rattle.h5w_writer.specs.Sessions.{Session}
 use Rattle.h5w_shared.specs.Seats.{ImageId, NoteView, SeatView}
 use Rattle.h5w_shared.specs.Turns.{StartsWith}
 use Rattle.h5w_shared.proofs.Beginnings.{starts_both}
@@ -33,7 +33,7 @@ use Rattle.h5w_live.proofs.ReaderLemmas.{reader_agrees, tells_seat}
 use Rattle.h5w_live.proofs.ReportLemmas.{all_whole, is_shut}
 use Rattle.h5w_live.proofs.RowLemmas.{few_values}
 use Rattle.h5w_live.proofs.RunLemmas.{is_run, restful}
-use Rattle.h5w_session.proofs.PastLemmas.{one_each}
+use Rattle.h5w_writer.proofs.PastLemmas.{one_each}
 
 -- ---- The readers of one image
 

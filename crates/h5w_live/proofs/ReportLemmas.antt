@@ -18,12 +18,12 @@ use Rattle.h5w_model.specs.declared.report.FlushLine.{FlushLine}
 use Rattle.h5w_model.specs.declared.root.Super.{Super}
 use Rattle.h5w_model.proofs.ImageLemmas.{At-apply, image-push}
 use Rattle.h5w_model.proofs.SuperLemmas.{length-super_bytes}
-use Rattle.h5w_headline.specs.Headline.{Served}
-use Rattle.h5w_headline.proofs.MomentLemmas.{moment, same_dataset, shown_is}
+use Rattle.h5w_reader_laws.specs.Headline.{Served}
+use Rattle.h5w_reader_laws.proofs.MomentLemmas.{moment, same_dataset, shown_is}
 use Rattle.h5w_laws.proofs.LogLemmas.{length_hist, position_laws}
 use Rattle.h5w_creation_laws.specs.CreatedFiles.{CreatedFile, created_writes}
-use Rattle.h5w_session.specs.Sessions.{Session}
-use Rattle.h5w_session.proofs.LawLemmas.{standing_laws}
+use Rattle.h5w_writer.specs.Sessions.{Session}
+use Rattle.h5w_writer.proofs.LawLemmas.{standing_laws}
 use Rattle.h5w_shared.specs.Seats.{SeatView}
 use Rattle.h5w_live_laws.specs.Lines.{pieces_in}
 use Rattle.h5w_live.specs.Reports.{AreWhole, IsShut, IsWholeBy, header_after}
@@ -31,7 +31,7 @@ use Rattle.h5w_live.specs.Writing.{AreBatches, AreWholeRows, HasClosed}
 use Rattle.h5w_live.proofs.FlushedLemmas.{pieces_rise}
 use Rattle.h5w_live.proofs.RowLemmas.{rows_in_values, some_rows}
 use Rattle.h5w_live.proofs.RunLemmas.{restful}
-use Rattle.h5w_session.proofs.PastLemmas.{one_each}
+use Rattle.h5w_writer.proofs.PastLemmas.{one_each}
 
 -- before the next line all rows are told
 none_after : (columns pieces rows before p : ℕ) (bs : List (List ℤ)) (fs : List FlushLine) → FlushesAgree columns pieces rows bs fs → p ≤ pieces → rows_after before p fs ≡ before

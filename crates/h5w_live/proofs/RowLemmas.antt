@@ -8,7 +8,7 @@ use Rattle.h5w_model.specs.declared.cell.IndexKind.{IndexKind}
 use Rattle.h5w_model.specs.declared.cell.IndexKind.TheVariants.{Array, Tree}
 use Rattle.h5w_model.proofs.IntegerLemmas.{int_size_bounds}
 use Rattle.h5w_creation_laws.specs.CreatedFiles.{CreatedFile, IsCreatable}
-use Rattle.h5w_session.proofs.StateLemmas.{up_at_most, up_few}
+use Rattle.h5w_writer.proofs.StateLemmas.{up_at_most, up_few}
 use Rattle.h5w_live.specs.Writing.{AreBatches, AreWholeRows, cutting_for}
 
 -- ---- Rows

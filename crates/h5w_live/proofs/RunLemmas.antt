@@ -19,8 +19,8 @@ use Rattle.h5w_model.specs.declared.report.FlushLine.{FlushLine}
 use Rattle.h5w_types.proofs.RunLemmas.{in_span_each}
 use Rattle.h5w_reader.specs.Readers.{reader_rules}
 use Rattle.h5w_creation_laws.specs.CreatedFiles.{CreatedFile}
-use Rattle.h5w_session.specs.Sessions.{Session}
-use Rattle.h5w_session.proofs.LawLemmas.{shown_laws, standing_laws}
+use Rattle.h5w_writer.specs.Sessions.{Session}
+use Rattle.h5w_writer.proofs.LawLemmas.{shown_laws, standing_laws}
 use Rattle.h5w_shared.specs.Seats.{SeatView}
 use Rattle.h5w_live_laws.specs.Laws.{IsRunOf, Restful}
 use Rattle.h5w_live.specs.Reports.{run_of}

@@ -5,15 +5,15 @@ use Rattle.h5w_model.specs.Datasets.{Described}
 use Rattle.h5w_model.specs.Logs.{Happening, Log, and_now, appends, hist, plans, shows}
 use Rattle.h5w_model.specs.declared.piece.Write.{Write}
 use Rattle.h5w_creation_laws.specs.CreatedFiles.{CreatedFile, described_of}
-use Rattle.h5w_session.specs.Past.{IsNew}
-use Rattle.h5w_session.specs.Sessions.{AfterPiece, Session, Settles, stopped_of, with_rows}
-use Rattle.h5w_session.specs.Stands.{Stands}
+use Rattle.h5w_writer.specs.Past.{IsNew}
+use Rattle.h5w_writer.specs.Sessions.{AfterPiece, Session, Settles, stopped_of, with_rows}
+use Rattle.h5w_writer.specs.Stands.{Stands}
 use Rattle.h5w_image.specs.View.{Same}
 use Rattle.h5w_shared.specs.Seats.{FailedSeat, ImageId, SeatView, seen_through}
 use Rattle.h5w_shared.proofs.ThreadLemmas.{through_seats}
 use Rattle.h5w_live.specs.Writing.{ArePut, HasPlaces, HasWritten, StaysSeated, Writes}
-use Rattle.h5w_headline.specs.Showing.{showing}
-use Rattle.h5w_session_laws.proofs.PieceLemmas.{after_pending, freed_end, freed_limit, onward}
+use Rattle.h5w_reader_laws.specs.Showing.{showing}
+use Rattle.h5w_writer_laws.proofs.PieceLemmas.{after_pending, freed_end, freed_limit, onward}
 
 -- ---- Events
 

@@ -14,8 +14,8 @@ use Rattle.h5w_model.specs.declared.root.Super.{Super}
 use Rattle.h5w_creation_laws.specs.CreatedFiles.{CreatedFile, created_writes}
 use Rattle.h5w_model.specs.Unfinished.{ReaderRules}
 use Rattle.h5w_reader.specs.Readers.{reader_rules}
-use Rattle.h5w_session.specs.Sessions.{Session}
-use Rattle.h5w_session.specs.declared.refusal.AppendError.TheVariants as appends
+use Rattle.h5w_writer.specs.Sessions.{Session}
+use Rattle.h5w_writer.specs.declared.refusal.AppendError.TheVariants as appends
 use Rattle.h5w_shared.specs.Seats.{ImageId, SeatView}
 use Rattle.h5w_shared.specs.Turns.{StartsWith}
 use Rattle.h5w_live_reading.specs.Ends.{ReadersEnd}

@@ -8,13 +8,13 @@ use Rattle.h5w_model.specs.declared.piece.Write.{Write}
 use Rattle.h5w_model.specs.declared.report.FlushLine.{FlushLine}
 use Rattle.h5w_model.specs.declared.root.Super.{Super}
 use Rattle.h5w_creation_laws.specs.CreatedFiles.{CreatedFile, IsCreatable, created_log, created_writes, described_of}
-use Rattle.h5w_session.specs.Creations.{IsCreated, log_of}
-use Rattle.h5w_session.specs.Loads.{NoPlace}
-use Rattle.h5w_session.specs.Refusals.{IsFullFor}
-use Rattle.h5w_session.specs.Sessions.{Session, with_rows}
-use Rattle.h5w_session.specs.Stands.{Stands}
-use Rattle.h5w_session.specs.declared.refusal.AppendError.{AppendError}
-use Rattle.h5w_session.specs.declared.refusal.AppendError.TheVariants as errors
+use Rattle.h5w_writer.specs.Creations.{IsCreated, log_of}
+use Rattle.h5w_writer.specs.Loads.{NoPlace}
+use Rattle.h5w_writer.specs.Refusals.{IsFullFor}
+use Rattle.h5w_writer.specs.Sessions.{Session, with_rows}
+use Rattle.h5w_writer.specs.Stands.{Stands}
+use Rattle.h5w_writer.specs.declared.refusal.AppendError.{AppendError}
+use Rattle.h5w_writer.specs.declared.refusal.AppendError.TheVariants as errors
 use Rattle.h5w_space.specs.declared.Full.{Full}
 use Rattle.h5w_shared.specs.Seats.{SeatView}
 use Rattle.h5w_shared.specs.Threads.{IsLogOf}
@@ -22,7 +22,7 @@ use Rattle.h5w_model.specs.Superblock.{super_at, super_bytes}
 use Rattle.h5w_live.specs.declared.writing.Halt.{Halt}
 use Rattle.h5w_live.specs.declared.writing.Halt.TheVariants as halts
 use Rattle.h5w_live_laws.specs.Lines.{TellsFlushes, pieces_in, rows_told}
-use Rattle.h5w_headline.specs.Showing.{showing}
+use Rattle.h5w_reader_laws.specs.Showing.{showing}
 
 -- ---- Batches
 

@@ -3,7 +3,7 @@ ghost use Rattle.std.specs.Prelude.{◌≡◌, ℕ, ◌+◌, ◌<◌, All, IfErr
 ghost use Rattle.h5w_model.specs.Agrees.{Agrees};
 ghost use Rattle.h5w_model.specs.declared.report.FlushLine.{FlushLine};
 ghost use Rattle.h5w_creation_laws.specs.CreatedFiles.{CreatedFile};
-ghost use Rattle.h5w_session.specs.Sessions.{Session};
+ghost use Rattle.h5w_writer.specs.Sessions.{Session};
 ghost use Rattle.h5w_shared.specs.Seats.{NoteView};
 ghost use Rattle.h5w_shared.specs.Turns.{StartsWith};
 ghost use Rattle.h5w_live.specs.Reports.{IsCause, Joined, PartAgrees, PartJoined, Ran, Reports, TellPart, TellSeats, before_close, run_of};
@@ -23,7 +23,7 @@ use h5w_image::Journal;
 use h5w_live_reading::{AllEnded, Cut};
 use h5w_model::{FlushLine, PollLine};
 use h5w_pen::Pen;
-use h5w_session::WriterCore;
+use h5w_writer::WriterCore;
 use h5w_shared::{Note, SharedImage};
 use std::sync::Wait;
 

@@ -5,7 +5,7 @@ use crate::following::Second;
 use crate::threads::Beside;
 use h5w_live_reading::{AllEnded, Cut};
 use h5w_pen::Pen;
-use h5w_session::WriterCore;
+use h5w_writer::WriterCore;
 use h5w_shared::SharedImage;
 
 /// Lets a session go.

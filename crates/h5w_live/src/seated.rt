@@ -1,19 +1,19 @@
 //! A session's calls through what writes its image.
 ghost use Rattle.std.specs.Prelude.{◌≡◌, ◌≢◌, ◌⊎◌, ◌<◌, ◌≤◌, length, IfErr, IfOk, OnErr, OnOk, Ok, Err, Some};
 ghost use Rattle.h5w_model.specs.Logs.{Log, and_now, appends, plans};
-ghost use Rattle.h5w_session.specs.Refusals.{IsFullFor, IsSpace, append_refusal, flush_refusal};
-ghost use Rattle.h5w_session.specs.Loads.{NoPlace};
-ghost use Rattle.h5w_session.specs.Past.{IsNew};
-ghost use Rattle.h5w_session.specs.Sessions.{AddsValues, AreRows, TakesRows, rows_of};
-ghost use Rattle.h5w_session.specs.Stands.{Stands};
-ghost use Rattle.h5w_session.specs.Flushes.{SameBut};
-ghost use Rattle.h5w_session.specs.declared.refusal.AppendError.{AppendError};
-ghost use Rattle.h5w_session.specs.declared.refusal.FlushError.{FlushError};
+ghost use Rattle.h5w_writer.specs.Refusals.{IsFullFor, IsSpace, append_refusal, flush_refusal};
+ghost use Rattle.h5w_writer.specs.Loads.{NoPlace};
+ghost use Rattle.h5w_writer.specs.Past.{IsNew};
+ghost use Rattle.h5w_writer.specs.Sessions.{AddsValues, AreRows, TakesRows, rows_of};
+ghost use Rattle.h5w_writer.specs.Stands.{Stands};
+ghost use Rattle.h5w_writer.specs.Flushes.{SameBut};
+ghost use Rattle.h5w_writer.specs.declared.refusal.AppendError.{AppendError};
+ghost use Rattle.h5w_writer.specs.declared.refusal.FlushError.{FlushError};
 ghost use Rattle.h5w_space.specs.declared.Full.{Full};
 ghost use Rattle.h5w_live.specs.Writing.{HasRoom, StaysSeated};
 
 use h5w_pen::{Pen, Penned};
-use h5w_session::{AppendError, FlushError, WriterCore};
+use h5w_writer::{AppendError, FlushError, WriterCore};
 use h5w_shared::SharedImage;
 use std::sync::Wait;
 

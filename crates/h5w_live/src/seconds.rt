@@ -1,7 +1,7 @@
 //! What the readers of a second image come to, once all threads have ended.
 ghost use Rattle.std.specs.Prelude.{◌≡◌, All, IfOk, List};
 ghost use Rattle.h5w_model.specs.declared.report.FlushLine.{FlushLine};
-ghost use Rattle.h5w_session.specs.Sessions.{Session};
+ghost use Rattle.h5w_writer.specs.Sessions.{Session};
 ghost use Rattle.h5w_shared.specs.Seats.{NoteView, SeatView};
 ghost use Rattle.h5w_shared.specs.Turns.{StartsWith};
 ghost use Rattle.h5w_live.specs.Reports.{PartAgrees, PartJoined, TellPart, run_of};

@@ -20,7 +20,7 @@ use h5w_live_reading::{AllEnded, Cut, read_all};
 use h5w_model::{FlushLine, OutOfMemory, Values};
 use h5w_pen::Pen;
 use h5w_replica::Follow;
-use h5w_session::WriterCore;
+use h5w_writer::WriterCore;
 use h5w_shared::{ReaderSeat, SharedImage};
 use std::alloc::Global;
 use std::sync::Wait;

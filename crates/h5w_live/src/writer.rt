@@ -3,7 +3,7 @@ ghost use Rattle.std.specs.Prelude.{◌≡◌, ◌<◌, ◌≤◌, ◌+◌, ◌+
 ghost use Rattle.h5w_model.specs.Agrees.{values_in};
 ghost use Rattle.h5w_model.specs.declared.report.FlushLine.{FlushLine};
 ghost use Rattle.h5w_creation_laws.specs.CreatedFiles.{CreatedFile};
-ghost use Rattle.h5w_session.specs.Sessions.{AreRows};
+ghost use Rattle.h5w_writer.specs.Sessions.{AreRows};
 ghost use Rattle.h5w_live.specs.declared.writing.Halt.{Halt};
 ghost use Rattle.h5w_live.specs.Reports.{before_close};
 ghost use Rattle.h5w_live.specs.Writing.{AreBatches, Explains, HasClosed, HasFlushed, Refuses, batch_refusal, first_refused};
@@ -13,7 +13,7 @@ use crate::writing::{Halt, show};
 use h5w_image::{Failed, Gate, OpenGate};
 use h5w_model::{FlushLine, Values};
 use h5w_pen::Pen;
-use h5w_session::WriterCore;
+use h5w_writer::WriterCore;
 use h5w_shared::SharedImage;
 use std::alloc::Global;
 use std::sync::Wait;

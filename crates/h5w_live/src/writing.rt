@@ -4,15 +4,15 @@ ghost use Rattle.h5w_model.specs.Agrees.{values_in};
 ghost use Rattle.h5w_model.specs.Logs.{Log, and_now, appends};
 ghost use Rattle.h5w_model.specs.declared.report.FlushLine.{FlushLine};
 ghost use Rattle.h5w_creation_laws.specs.CreatedFiles.{CreatedFile};
-ghost use Rattle.h5w_session.specs.Sessions.{AfterPiece};
-ghost use Rattle.h5w_session.specs.Stands.{Stands};
-ghost use Rattle.h5w_session.specs.declared.refusal.AppendError.TheVariants as appending;
+ghost use Rattle.h5w_writer.specs.Sessions.{AfterPiece};
+ghost use Rattle.h5w_writer.specs.Stands.{Stands};
+ghost use Rattle.h5w_writer.specs.declared.refusal.AppendError.TheVariants as appending;
 ghost use Rattle.h5w_live.specs.Writing.{HasFlushed, HasPlaces, HasRoom, HasWritten, Writes, batch_refusal};
-ghost use Rattle.h5w_headline.specs.Showing.{showing};
+ghost use Rattle.h5w_reader_laws.specs.Showing.{showing};
 
 use h5w_image::{Failed, Gate, OpenGate};
 use h5w_pen::Pen;
-use h5w_session::{Full, WriterCore};
+use h5w_writer::{Full, WriterCore};
 use h5w_shared::SharedImage;
 use std::sync::Wait;
 

@@ -6,7 +6,7 @@ use Rattle.std.proofs.lemmas.List.{append-nil}
 use Rattle.h5w_model.specs.Logs.{Log, flushed_at}
 use Rattle.h5w_model.specs.Agrees.{FlushesAgree, flushes_within, rows_after, values_in}
 use Rattle.h5w_model.specs.declared.report.FlushLine.{FlushLine}
-use Rattle.h5w_headline.specs.Headline.{rises}
+use Rattle.h5w_reader_laws.specs.Headline.{rises}
 use Rattle.h5w_live_laws.specs.Lines.{pieces_in, rows_told}
 
 -- ---- How many flushes became whole

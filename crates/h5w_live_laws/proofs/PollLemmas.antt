@@ -21,9 +21,9 @@ use Rattle.h5w_model.specs.declared.report.Poll.TheVariants as polls
 use Rattle.h5w_model.specs.declared.report.PollLine.{PollLine}
 use Rattle.h5w_laws.proofs.AnswerLemmas.{one_answer}
 use Rattle.h5w_laws.proofs.LookLemmas.{takes_ret}
-use Rattle.h5w_headline.specs.Headline.{IsAnswer, IsHeaderLook, IsTakenAt, again_between}
-use Rattle.h5w_headline.proofs.CallLemmas.{opens_on_rows, refreshes_to_rows}
-use Rattle.h5w_headline.proofs.ValueLemmas.{reads_values}
+use Rattle.h5w_reader_laws.specs.Headline.{IsAnswer, IsHeaderLook, IsTakenAt, again_between}
+use Rattle.h5w_reader_laws.proofs.CallLemmas.{opens_on_rows, refreshes_to_rows}
+use Rattle.h5w_reader_laws.proofs.ValueLemmas.{reads_values}
 use Rattle.h5w_shared.specs.Threads.{Sight, placed}
 use Rattle.h5w_shared.specs.Turns.{StartsWith}
 use Rattle.h5w_shared.proofs.Beginnings.{starts_both, starts_itself, starts_length}

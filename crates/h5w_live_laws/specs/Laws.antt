@@ -12,7 +12,7 @@ use Rattle.h5w_model.specs.declared.piece.Write.{Write}
 use Rattle.h5w_model.specs.declared.refusal.ReadError.{ReadError}
 use Rattle.h5w_model.specs.declared.report.PollLine.{PollLine}
 use Rattle.h5w_model.specs.declared.refusal.ReadError.TheVariants as refusals
-use Rattle.h5w_headline.specs.Headline.{Served, WithinLimits}
+use Rattle.h5w_reader_laws.specs.Headline.{Served, WithinLimits}
 use Rattle.h5w_shared.specs.Threads.{Sight}
 use Rattle.h5w_shared.specs.Turns.{StartsWith}
 use Rattle.h5w_live_laws.specs.Lines.{TellsFlushes}

@@ -14,29 +14,29 @@ use Rattle.h5w_image.specs.Memory.{MemView, fresh}
 use Rattle.h5w_image.specs.View.{Same, Wrote}
 use Rattle.h5w_space.specs.Space.{Space}
 use Rattle.h5w_space.specs.declared.Full.{Full}
-use Rattle.h5w_session.specs.Loads.{first_end_of}
+use Rattle.h5w_writer.specs.Loads.{first_end_of}
 use Rattle.h5w_creation_laws.specs.CreatedFiles.{IsCreatable, created_log, created_writes, described_of}
-use Rattle.h5w_session.specs.Creations.{IsCreated, log_of}
-use Rattle.h5w_session.specs.Past.{IsNew}
-use Rattle.h5w_session.specs.Room.{HasRoomFor}
-use Rattle.h5w_session.specs.Refusals.{IsSpace, append_refusal, chunks_refusal, flush_refusal}
-use Rattle.h5w_session.specs.Sessions.{AddsValues, AfterPiece, Session, Settles, TakesRows, chunk_limit, chunks_with, cleared, closed_of, closed_root, cutting_of, rows_of, with_rows, with_values, IsNamed}
-use Rattle.h5w_session.specs.Stands.{Stands}
-use Rattle.h5w_session.specs.declared.refusal.AppendError.{AppendError}
-use Rattle.h5w_session.specs.declared.refusal.AppendError.TheVariants as errors
-use Rattle.h5w_session.specs.declared.refusal.FlushError.{FlushError}
-use Rattle.h5w_session.specs.declared.refusal.FlushError.TheVariants as flushes
-use Rattle.h5w_session.proofs.PastLemmas.{new_end, spent_in-events}
-use Rattle.h5w_session.proofs.LawLemmas.{standing_laws, shown_laws}
+use Rattle.h5w_writer.specs.Creations.{IsCreated, log_of}
+use Rattle.h5w_writer.specs.Past.{IsNew}
+use Rattle.h5w_writer.specs.Room.{HasRoomFor}
+use Rattle.h5w_writer.specs.Refusals.{IsSpace, append_refusal, chunks_refusal, flush_refusal}
+use Rattle.h5w_writer.specs.Sessions.{AddsValues, AfterPiece, Session, Settles, TakesRows, chunk_limit, chunks_with, cleared, closed_of, closed_root, cutting_of, rows_of, with_rows, with_values, IsNamed}
+use Rattle.h5w_writer.specs.Stands.{Stands}
+use Rattle.h5w_writer.specs.declared.refusal.AppendError.{AppendError}
+use Rattle.h5w_writer.specs.declared.refusal.AppendError.TheVariants as errors
+use Rattle.h5w_writer.specs.declared.refusal.FlushError.{FlushError}
+use Rattle.h5w_writer.specs.declared.refusal.FlushError.TheVariants as flushes
+use Rattle.h5w_writer.proofs.PastLemmas.{new_end, spent_in-events}
+use Rattle.h5w_writer.proofs.LawLemmas.{standing_laws, shown_laws}
 use Rattle.h5w_steady.specs.Steady.{steady}
 use Rattle.h5w_make.specs.Commands.{new_file, values_of}
-use Rattle.h5w_headline.specs.Showing.{showing}
+use Rattle.h5w_reader_laws.specs.Showing.{showing}
 use Rattle.h5w_make.specs.States.{HasPlace, IsAfter, IsAppended, IsClosed, IsTaken, ShowsAll}
 use Rattle.h5w_make.proofs.EventLemmas.{appended_batches, cutting, load_bound, spent_showing}
-use Rattle.h5w_session.proofs.FlushCalls.{takes_named}
-use Rattle.h5w_headline.proofs.ShowingLemmas.{appended_showing, hist_showing}
-use Rattle.h5w_session.proofs.StateLemmas.{some_is}
-use Rattle.h5w_session_laws.proofs.PieceLemmas.{after_pending, freed_limit, itself, none_some, onward}
+use Rattle.h5w_writer.proofs.FlushCalls.{takes_named}
+use Rattle.h5w_reader_laws.proofs.ShowingLemmas.{appended_showing, hist_showing}
+use Rattle.h5w_writer.proofs.StateLemmas.{some_is}
+use Rattle.h5w_writer_laws.proofs.PieceLemmas.{after_pending, freed_limit, itself, none_some, onward}
 
 -- ---- Once all pieces became visible
 

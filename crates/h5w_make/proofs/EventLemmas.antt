@@ -5,8 +5,8 @@ use Rattle.h5w_model.specs.Logs.{Cutting, Happening, Log, appended, appended_in,
 use Rattle.h5w_model.specs.declared.piece.Write.{Write}
 use Rattle.h5w_creation_laws.specs.CreatedFiles.{created_writes}
 use Rattle.h5w_make.specs.Commands.{AreBatches, new_file, values_of}
-use Rattle.h5w_headline.specs.Showing.{showing}
-use Rattle.h5w_headline.proofs.ShowingLemmas.{appended_showing}
+use Rattle.h5w_reader_laws.specs.Showing.{showing}
+use Rattle.h5w_reader_laws.proofs.ShowingLemmas.{appended_showing}
 
 pub spent_showing : (c : Cutting) (log : Log) (ws : List Write) (es : List Happening) → spent_in c log (showing ws es) ≡ spent_in c log es
 spent_showing c log [] es = refl

@@ -9,8 +9,8 @@ use Rattle.h5w_model.specs.Prefixed.{Held, IsPosition, Prefixed, ReadsNow, image
 use Rattle.h5w_model.specs.Tables.{Reads}
 use Rattle.h5w_laws.proofs.LogLemmas.{flushed_laws}
 use Rattle.h5w_image.specs.Memory.{MemView}
-use Rattle.h5w_session.specs.Sessions.{Session}
-use Rattle.h5w_session.proofs.LawLemmas.{shown_laws, standing_laws}
+use Rattle.h5w_writer.specs.Sessions.{Session}
+use Rattle.h5w_writer.proofs.LawLemmas.{shown_laws, standing_laws}
 use Rattle.h5w_make.specs.Commands.{batches, data_name, values_of}
 use Rattle.h5w_make.specs.Generators.{generated, numbers}
 use Rattle.h5w_make.specs.Makes.{IsMade}

@@ -15,8 +15,8 @@ use Rattle.h5w_laws.specs.Several.{alone}
 use Rattle.h5w_laws.proofs.OneNameLemmas.{one_name}
 use Rattle.h5w_laws.proofs.LookLemmas.{takes_on}
 use Rattle.h5w_laws.proofs.ResultLemmas.{ok_is, ok_err}
-use Rattle.h5w_headline.proofs.EndLemmas.{plain_values}
-use Rattle.h5w_headline.proofs.StillReads.{still_reads}
+use Rattle.h5w_reader_laws.proofs.EndLemmas.{plain_values}
+use Rattle.h5w_reader_laws.proofs.StillReads.{still_reads}
 use Rattle.h5w_reader.specs.Readers.{BegunRead, StepTells, IsRefused, IsRows, reader_rules}
 use Rattle.h5w_reader.specs.declared.step.Step.{Step}
 use Rattle.h5w_reader.specs.declared.step.Step.TheVariants as steps

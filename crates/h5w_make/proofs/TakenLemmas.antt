@@ -3,7 +3,7 @@ use Rattle.std.proofs.Common.{◌≡◌, ◌≢◌, ℕ, ◌+◌, ◌*◌, ◌/�
 use Rattle.std.specs.Prelude.{◌==◌}
 use Rattle.std.proofs.lemmas.Bool.{cond-true, cond-false, eq-eqb, ne_eqb}
 use Rattle.h5w_image.specs.Memory.{MemView}
-use Rattle.h5w_session.specs.Sessions.{Session}
+use Rattle.h5w_writer.specs.Sessions.{Session}
 use Rattle.h5w_make.specs.Commands.{batches, full_batches, values_of}
 use Rattle.h5w_make.specs.Generators.{generated, state_after}
 use Rattle.h5w_make.specs.States.{IsAfter, IsTaken}

@@ -7,7 +7,7 @@ use Rattle.h5w_model.specs.declared.root.Super.{Super}
 use Rattle.h5w_model.specs.declared.cell.IndexKind.TheVariants.{Array}
 use Rattle.h5w_creation_laws.specs.CreatedFiles.{CreatedFile, created_writes}
 use Rattle.h5w_make.specs.Generators.{generated, state_after}
-use Rattle.h5w_headline.specs.Showing.{showing}
+use Rattle.h5w_reader_laws.specs.Showing.{showing}
 
 -- the bytes of the name "data"
 abbrev pub data_name : List ℕ

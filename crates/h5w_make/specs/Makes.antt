@@ -5,7 +5,7 @@ use Rattle.h5w_model.specs.Logs.{Log, hist}
 use Rattle.h5w_model.specs.Prefixed.{Held, Prefixed}
 use Rattle.h5w_model.specs.Tables.{Reads}
 use Rattle.h5w_model.specs.Findings.{Summary, Valid}
-use Rattle.h5w_session.specs.Creations.{log_of}
+use Rattle.h5w_writer.specs.Creations.{log_of}
 use Rattle.h5w_make.specs.Commands.{AreClosed, batches, data_name, new_file}
 use Rattle.h5w_make.specs.Generators.{generated, numbers}
 use Rattle.h5w_make.specs.declared.made.Made.{Made}

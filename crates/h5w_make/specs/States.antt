@@ -6,14 +6,14 @@ use Rattle.h5w_model.specs.Logs.{Log, appends, hist, spent}
 use Rattle.h5w_model.specs.declared.piece.Write.{Write}
 use Rattle.h5w_image.specs.Memory.{MemView}
 use Rattle.h5w_space.specs.declared.Full.{Full}
-use Rattle.h5w_session.specs.Loads.{NoPlace}
+use Rattle.h5w_writer.specs.Loads.{NoPlace}
 use Rattle.h5w_creation_laws.specs.CreatedFiles.{described_of}
-use Rattle.h5w_session.specs.Creations.{log_of}
-use Rattle.h5w_session.specs.Past.{IsNew}
-use Rattle.h5w_session.specs.Sessions.{AddsValues, Session, cutting_of, with_rows}
-use Rattle.h5w_session.specs.Stands.{Stands}
+use Rattle.h5w_writer.specs.Creations.{log_of}
+use Rattle.h5w_writer.specs.Past.{IsNew}
+use Rattle.h5w_writer.specs.Sessions.{AddsValues, Session, cutting_of, with_rows}
+use Rattle.h5w_writer.specs.Stands.{Stands}
 use Rattle.h5w_make.specs.Commands.{AreBatches, AreClosed, data_name, new_file, values_of}
-use Rattle.h5w_headline.specs.Showing.{showing}
+use Rattle.h5w_reader_laws.specs.Showing.{showing}
 
 -- All pieces of these batches are visible: the image is that of the session's log, and nothing is pending or waits.
 pub record IsAfter (bs : List (List ℤ)) (s : Session) (m : MemView) : Type 0 where

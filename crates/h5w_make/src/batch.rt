@@ -6,19 +6,19 @@ ghost use Rattle.h5w_options.specs.Options.{AreOptions};
 ghost use Rattle.h5w_image.specs.Memory.{fresh};
 ghost use Rattle.h5w_image.specs.View.{Same};
 ghost use Rattle.h5w_form.specs.NewFiles.{new_file as file_of};
-ghost use Rattle.h5w_session.specs.Refusals.{append_refusal, flush_refusal};
-ghost use Rattle.h5w_session.specs.Room.{HasRoomFor};
-ghost use Rattle.h5w_session.specs.Sessions.{AfterPiece, AreRows, Session, TakesRows};
-ghost use Rattle.h5w_session.specs.Stands.{Stands};
+ghost use Rattle.h5w_writer.specs.Refusals.{append_refusal, flush_refusal};
+ghost use Rattle.h5w_writer.specs.Room.{HasRoomFor};
+ghost use Rattle.h5w_writer.specs.Sessions.{AfterPiece, AreRows, Session, TakesRows};
+ghost use Rattle.h5w_writer.specs.Stands.{Stands};
 ghost use Rattle.h5w_steady.specs.Steady.{steady};
 ghost use Rattle.h5w_make.specs.Commands.{batches, new_file};
-ghost use Rattle.h5w_headline.specs.Showing.{showing};
+ghost use Rattle.h5w_reader_laws.specs.Showing.{showing};
 ghost use Rattle.h5w_make.specs.States.{HasPlace, IsAfter, IsAppended, IsClosed, IsTaken, TakesBatch, ShowsAll};
 
 use crate::seeded::generator;
 use h5w_model::{Bytes, OutOfMemory};
 use h5w_options::{IntType, Options};
-use h5w_session::{AppendError, FlushError, WriterCore};
+use h5w_writer::{AppendError, FlushError, WriterCore};
 use h5w_steady::SteadyImage;
 use std::alloc::Global;
 

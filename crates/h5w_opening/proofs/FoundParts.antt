@@ -11,7 +11,7 @@ use Rattle.h5w_model.specs.declared.root.Super.{Super}
 use Rattle.h5w_model.specs.declared.refusal.ReadError.TheVariants as read_errors
 use Rattle.h5w_model.proofs.SuperLemmas.{super_either}
 use Rattle.h5w_laws.proofs.ResultLemmas.{fails, refused_ok, then_ok}
-use Rattle.h5w_found.specs.Walks.{root_header_for, dataset_header_for}
+use Rattle.h5w_headers.specs.Walks.{root_header_for, dataset_header_for}
 use Rattle.h5w_opening.specs.Openings.{DatasetHeaderFields, Opened, chunk_0_len, closed_super, dataset_found, in_chunk_0, is_open, known, looked_for, place_found, super_found}
 use Rattle.h5w_opening.specs.declared.error.OpenError.{OpenError}
 use Rattle.h5w_opening.specs.declared.error.OpenError.TheVariants.{Read, Version, Flags, Cut}

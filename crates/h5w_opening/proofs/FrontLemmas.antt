@@ -7,7 +7,7 @@ use Rattle.h5w_model.specs.Datasets.{HeaderFields, super_refusal, then_also, ref
 use Rattle.h5w_model.specs.declared.root.Super.{Super}
 use Rattle.h5w_model.specs.declared.refusal.ReadError.{ReadError}
 use Rattle.h5w_laws.proofs.ProgramLemmas.{eval_and_then}
-use Rattle.h5w_found.specs.Walks.{root_header_for}
+use Rattle.h5w_headers.specs.Walks.{root_header_for}
 use Rattle.h5w_opening.specs.Fronts.{FrontFields, front_by, front_for, places_by, places_found}
 use Rattle.h5w_opening.specs.Openings.{closed_super, reading, super_by, super_found}
 use Rattle.h5w_opening.specs.declared.error.OpenError.{OpenError}

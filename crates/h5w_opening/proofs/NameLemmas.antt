@@ -2,8 +2,8 @@
 use Rattle.std.proofs.Common.{◌≡◌, ℕ, suc, List, [], ◌∷◌, length, Option, Some, None, Result, Ok, Err, refl, sym, ◌∙◌, ap, subst}
 use Rattle.h5w_model.specs.Datasets.{FoundMessage, linked, all_linked, same_link, then_also, refused_as}
 use Rattle.h5w_model.specs.declared.refusal.ReadError.{ReadError}
-use Rattle.h5w_found.specs.Linked.{Led, led_by, LinksAre}
-use Rattle.h5w_found.proofs.RanLemmas.{step_ok, step_err}
+use Rattle.h5w_headers.specs.Linked.{Led, led_by, LinksAre}
+use Rattle.h5w_headers.proofs.RanLemmas.{step_ok, step_err}
 use Rattle.h5w_opening.specs.Fronts.{places_by, unlike}
 use Rattle.h5w_opening.specs.declared.error.OpenError.TheVariants.{Read}
 

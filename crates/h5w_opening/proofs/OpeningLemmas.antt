@@ -8,11 +8,11 @@ use Rattle.h5w_model.specs.Datasets.{FoundMessage, HeaderFields, super_refusal, 
 use Rattle.h5w_model.specs.declared.root.Super.{Super}
 use Rattle.h5w_model.specs.declared.refusal.ReadError.{ReadError}
 use Rattle.h5w_laws.proofs.ProgramLemmas.{eval_bind, eval_and_then}
-use Rattle.h5w_found.specs.Errors as found
-use Rattle.h5w_found.specs.Ran.{Told, seen}
-use Rattle.h5w_found.specs.Walks.{root_header_for, dataset_header_for}
-use Rattle.h5w_found.specs.declared.error.FindError.TheVariants as find_errors
-use Rattle.h5w_found.proofs.KindLemmas.{Become}
+use Rattle.h5w_headers.specs.Errors as found
+use Rattle.h5w_headers.specs.Ran.{Told, seen}
+use Rattle.h5w_headers.specs.Walks.{root_header_for, dataset_header_for}
+use Rattle.h5w_headers.specs.declared.error.FindError.TheVariants as find_errors
+use Rattle.h5w_headers.proofs.KindLemmas.{Become}
 use Rattle.h5w_opening.specs.Errors.{open_error, open_errors, refusal_of}
 use Rattle.h5w_opening.specs.Openings.{DatasetHeaderFields, IsSaid, Opened, chunk_0_len, closed_super, known, reading, looked_for, super_found, place_found, dataset_found}
 use Rattle.h5w_opening.specs.Views.{header_fields_of}

@@ -13,7 +13,7 @@ use Rattle.h5w_model.specs.declared.refusal.HeaderError.TheVariants as header_er
 use Rattle.h5w_model.specs.declared.refusal.ReadError.{ReadError}
 use Rattle.h5w_model.specs.declared.refusal.ReadError.TheVariants.{Header}
 use Rattle.h5w_model.specs.declared.refusal.ReadError.TheVariants as read_errors
-use Rattle.h5w_found.specs.Walks.{known_by, block_for, walk_for, from_chunk_0_for, root_header_for, dataset_header_for}
+use Rattle.h5w_headers.specs.Walks.{known_by, block_for, walk_for, from_chunk_0_for, root_header_for, dataset_header_for}
 
 -- what is written too is what is read, or a message that is not known is refused
 pub data Alike {A : Type 0} (read written : Result A ReadError) : Type 0 where

@@ -2,10 +2,10 @@
 use Rattle.std.specs.Prelude.{◌≡◌, ◌⊎◌, Option, Some, None}
 use Rattle.h5w_image.specs.declared.fault.ImageError.{ImageError}
 use Rattle.h5w_image.specs.declared.fault.ImageError.TheVariants as image_errors
-use Rattle.h5w_found.specs.Ran.{Errors}
-use Rattle.h5w_found.specs.Errors.{IsOfBytes}
-use Rattle.h5w_found.specs.declared.error.FindError.{FindError}
-use Rattle.h5w_found.specs.declared.error.FindError.TheVariants as find_errors
+use Rattle.h5w_headers.specs.Ran.{Errors}
+use Rattle.h5w_headers.specs.Errors.{IsOfBytes}
+use Rattle.h5w_headers.specs.declared.error.FindError.{FindError}
+use Rattle.h5w_headers.specs.declared.error.FindError.TheVariants as find_errors
 use Rattle.h5w_opening.specs.declared.error.OpenError.{OpenError}
 use Rattle.h5w_opening.specs.declared.error.OpenError.TheVariants.{Read, Version, Flags, Cut, Same, Layout, ChunkBytes, NoColumns, Finding, Failed, OutOfMemory}
 

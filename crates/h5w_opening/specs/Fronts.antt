@@ -4,7 +4,7 @@ use Rattle.h5w_model.specs.Programs.{Prog, ret, whole, eval, and_then}
 use Rattle.h5w_model.specs.Superblock.{super_at}
 use Rattle.h5w_model.specs.Datasets.{FoundMessage, super_refusal, all_linked, same_link, then_also, refused_as}
 use Rattle.h5w_model.specs.declared.root.Super.{Super}
-use Rattle.h5w_found.specs.Walks.{root_header_for}
+use Rattle.h5w_headers.specs.Walks.{root_header_for}
 use Rattle.h5w_opening.specs.Openings.{closed_super, reading, written_super}
 use Rattle.h5w_opening.specs.declared.error.OpenError.{OpenError}
 use Rattle.h5w_opening.specs.declared.error.OpenError.TheVariants.{Read, Same}

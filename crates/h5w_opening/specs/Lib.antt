@@ -1,7 +1,7 @@
 pub use Rattle.h5w_model.specs.Programs
 pub use Rattle.h5w_image.specs.View
-pub use Rattle.h5w_found.specs.Ran
-pub use Rattle.h5w_found.specs.Walks
+pub use Rattle.h5w_headers.specs.Ran
+pub use Rattle.h5w_headers.specs.Walks
 pub mod Errors
 pub mod Openings
 pub mod Fronts

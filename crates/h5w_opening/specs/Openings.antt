@@ -9,7 +9,7 @@ use Rattle.h5w_model.specs.Findings.{chunk_bytes}
 use Rattle.h5w_model.specs.declared.root.Super.{Super}
 use Rattle.h5w_model.specs.declared.refusal.ReadError.{ReadError}
 use Rattle.h5w_model.specs.declared.refusal.ReadError.TheVariants as read_errors
-use Rattle.h5w_found.specs.Walks.{root_header_for, dataset_header_for}
+use Rattle.h5w_headers.specs.Walks.{root_header_for, dataset_header_for}
 use Rattle.h5w_opening.specs.declared.error.OpenError.{OpenError}
 use Rattle.h5w_opening.specs.declared.error.OpenError.TheVariants.{Read, Version, Flags, Cut, Layout, ChunkBytes, NoColumns}
 

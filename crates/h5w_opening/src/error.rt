@@ -1,4 +1,4 @@
-use h5w_found::FindError;
+use h5w_headers::FindError;
 use h5w_image::ImageError;
 use h5w_model::{OutOfMemory, ReadError};
 use thiserror::Error;

@@ -1,9 +1,9 @@
 //! A file that is opened for appending, up to the index of its chunks.
 ghost use Rattle.std.specs.Prelude.{◌≡◌, MatchOption, IfErr, IfOk, Ok, Err, false};
 ghost use Rattle.h5w_model.specs.Programs.{eval};
-ghost use Rattle.h5w_found.specs.Ran.{Ran, Told, seen};
+ghost use Rattle.h5w_headers.specs.Ran.{Ran, Told, seen};
 ghost use Rattle.h5w_dataset.specs.Founds.{founds};
-ghost use Rattle.h5w_found.specs.Headers.{ranges_of};
+ghost use Rattle.h5w_headers.specs.Headers.{ranges_of};
 ghost use Rattle.h5w_opening.specs.Errors.{IsOpenKind, open_errors};
 ghost use Rattle.h5w_opening.specs.Openings.{IsFound, IsSaid, chunk_0_len, closed_super, dataset_found, in_chunk_0, is_open, known, looked_for, place_found, refused_dataset, super_found};
 ghost use Rattle.h5w_opening.specs.Views.{header_fields_of, opened_of};
@@ -11,7 +11,7 @@ ghost use Rattle.h5w_opening.specs.Views.{header_fields_of, opened_of};
 use crate::error::OpenError;
 use h5w_bytes::UNDEFINED;
 use h5w_dataset::{Dataset, FoundMessage, describe, first};
-use h5w_found::{Extent, dataset_header, place_of, root_header, superblock};
+use h5w_headers::{Extent, dataset_header, place_of, root_header, superblock};
 use h5w_image::PieceRead;
 use h5w_model::{ReadError, Super};
 use std::alloc::Global;

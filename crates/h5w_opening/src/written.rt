@@ -1,7 +1,7 @@
 //! A file that somebody writes, or wrote and did not close, as another writer takes it over.
 ghost use Rattle.std.specs.Prelude.{◌≡◌, true, length, IfErr, IfOk};
 ghost use Rattle.h5w_model.specs.Programs.{eval};
-ghost use Rattle.h5w_found.specs.Ran.{Ran, Told, seen};
+ghost use Rattle.h5w_headers.specs.Ran.{Ran, Told, seen};
 ghost use Rattle.h5w_opening.specs.Errors.{IsOpenKind, open_errors};
 ghost use Rattle.h5w_opening.specs.Fronts.{written_front};
 ghost use Rattle.h5w_opening.specs.Openings.{is_written, super_by, written_super};
@@ -10,7 +10,7 @@ ghost use Rattle.h5w_opening.specs.Views.{front_fields_of};
 use crate::error::OpenError;
 use crate::finding::READ_ONLY;
 use crate::names::{Front, header_places};
-use h5w_found::superblock;
+use h5w_headers::superblock;
 use h5w_image::PieceRead;
 use h5w_model::Super;
 use h5w_names::Names;

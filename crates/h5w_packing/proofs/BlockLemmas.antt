@@ -13,8 +13,8 @@ use Rattle.h5w_model.specs.Findings.{Used, chunk_bytes, the_superblock}
 use Rattle.h5w_model.specs.declared.piece.Write.{Write}
 use Rattle.h5w_model.proofs.ImageLemmas.{Holds-front, Holds-rest}
 use Rattle.h5w_model.proofs.SuperLemmas.{length-super_bytes}
-use Rattle.h5w_visits.specs.Ranges.{AllAmong, Among, block_at}
-use Rattle.h5w_visits.proofs.RangeLemmas.{among_left, among_right, among_split}
+use Rattle.h5w_visit_laws.specs.Ranges.{AllAmong, Among, block_at}
+use Rattle.h5w_visit_laws.proofs.RangeLemmas.{among_left, among_right, among_split}
 use Rattle.h5w_header_laws.specs.Spelled.{spelled_header}
 use Rattle.h5w_header_laws.proofs.SpelledLemmas.{spelled_read}
 use Rattle.h5w_flush_laws.specs.Parts.{block_ranges, block_writes}

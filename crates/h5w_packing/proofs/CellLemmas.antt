@@ -13,7 +13,7 @@ use Rattle.h5w_model.specs.Datasets.{Described}
 use Rattle.h5w_model.specs.Tables.{Reading, cell, cell_offset, chunk_number}
 use Rattle.h5w_model.specs.Findings.{chunk_bytes}
 use Rattle.h5w_model.proofs.ImageLemmas.{At-range, length-range, range-At}
-use Rattle.h5w_steps.proofs.MomentLemmas.{cell_within, value_of}
+use Rattle.h5w_step_laws.proofs.MomentLemmas.{cell_within, value_of}
 use Rattle.h5w_packing_laws.specs.Sources.{IsSource}
 use Rattle.h5w_packing_laws.proofs.MapLemmas.{Tells}
 use Rattle.h5w_packing.specs.Plans.{SameDataset}

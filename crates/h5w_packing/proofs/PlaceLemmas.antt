@@ -14,7 +14,7 @@ use Rattle.h5w_model.specs.declared.cell.IndexKind.TheVariants.{Array, Tree}
 use Rattle.h5w_space.specs.Space.{Space, TakesEnd, TakesFree, TakesPlace}
 use Rattle.h5w_space.specs.declared.Extent.{Extent}
 use Rattle.h5w_space.specs.declared.Full.{Full}
-use Rattle.h5w_steps.proofs.MomentLemmas.{one_more}
+use Rattle.h5w_step_laws.proofs.MomentLemmas.{one_more}
 use Rattle.h5w_index.specs.Views.{HasSlot, IndexView, IsSound}
 use Rattle.h5w_index.specs.Steps.{IsDeep, IsHeld, IsSet}
 use Rattle.h5w_index.proofs.DepthLemmas.{depth_laws}

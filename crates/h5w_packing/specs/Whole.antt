@@ -8,7 +8,7 @@ use Rattle.h5w_model.specs.Findings.{AllSummary, AllValid, Used, chunk_bytes, th
 use Rattle.h5w_model.specs.Relations.{AllPaired}
 use Rattle.h5w_model.specs.Tiles.{Tiled}
 use Rattle.h5w_laws.specs.Tiles.{used_of}
-use Rattle.h5w_steps.specs.Moments.{Moment, Represents}
+use Rattle.h5w_step_laws.specs.Moments.{Moment, Represents}
 use Rattle.h5w_tree_index_laws.specs.TreeImages.{AreSame}
 use Rattle.h5w_packing_laws.specs.Packing.{packed_super}
 use Rattle.h5w_packing.specs.Jobs.{PackingView, writes_of}

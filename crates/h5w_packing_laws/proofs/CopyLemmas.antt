@@ -6,7 +6,7 @@ use Rattle.h5w_model.specs.Numbers.{undefined}
 use Rattle.h5w_model.specs.Trees.{node_size}
 use Rattle.h5w_model.specs.Findings.{Used}
 use Rattle.h5w_model.specs.declared.piece.Write.{Write}
-use Rattle.h5w_visits.specs.Ranges.{AllSome, Among, block_at}
+use Rattle.h5w_visit_laws.specs.Ranges.{AllSome, Among, block_at}
 use Rattle.h5w_space.specs.Space.{Space}
 use Rattle.h5w_cache.specs.Plans.{IsPlan, bytes_in, bytes_of}
 use Rattle.h5w_cache.specs.Stores.{Store, place_of}
@@ -18,7 +18,7 @@ use Rattle.h5w_array_laws.specs.ArrayStores.{IsArray, place_at_part}
 use Rattle.h5w_array_laws.specs.ArrayPlans.{fresh}
 use Rattle.h5w_array_laws.proofs.FreshLemmas.{fresh_copy, fresh_in_place, moves_on}
 use Rattle.h5w_array_laws.proofs.StoreLemmas.{move_at, new_at}
-use Rattle.h5w_array_flushes.proofs.ArrayPlaceLemmas.{PartOf, behind_part, in_place_as, part_of}
+use Rattle.h5w_array_flush_laws.proofs.ArrayPlaceLemmas.{PartOf, behind_part, in_place_as, part_of}
 use Rattle.h5w_bt_nodes.specs.Nodes.{Tree}
 use Rattle.h5w_bt_nodes.specs.Blocks.{changes, each_by, place_of as node_place, placed, stood}
 use Rattle.h5w_bt_index.specs.Marks.{IsCleanPart, Part, Some_of}

@@ -6,13 +6,13 @@ use Rattle.h5w_model.specs.Numbers.{range, undefined}
 use Rattle.h5w_model.specs.Tables.{format_limits, index_key, limit_of, needed}
 use Rattle.h5w_model.specs.Findings.{chunk_bytes}
 use Rattle.h5w_laws.proofs.AnswerLemmas.{same_ok}
-use Rattle.h5w_visits.specs.Ranges.{Among, chunk_at}
-use Rattle.h5w_visits.proofs.HeaderLaws.{header_tells}
-use Rattle.h5w_visits.proofs.NeededLaws.{table_any}
-use Rattle.h5w_visits.proofs.RangeLemmas.{among_right}
-use Rattle.h5w_steps.specs.Moments.{Moment, reading_of}
-use Rattle.h5w_steps.proofs.FoundLemmas.{Bare, bare_opened, bare_shows, valid_opened}
-use Rattle.h5w_steps.proofs.MomentLemmas.{super_parts}
+use Rattle.h5w_visit_laws.specs.Ranges.{Among, chunk_at}
+use Rattle.h5w_visit_laws.proofs.HeaderLaws.{header_tells}
+use Rattle.h5w_visit_laws.proofs.NeededLaws.{table_any}
+use Rattle.h5w_visit_laws.proofs.RangeLemmas.{among_right}
+use Rattle.h5w_step_laws.specs.Moments.{Moment, reading_of}
+use Rattle.h5w_step_laws.proofs.FoundLemmas.{Bare, bare_opened, bare_shows, valid_opened}
+use Rattle.h5w_step_laws.proofs.MomentLemmas.{super_parts}
 use Rattle.h5w_packing_laws.specs.Sources.{IsSource, ValidSource}
 
 of_moment : (img name : List ℕ) (m : Moment) → Bare img name m → IsSource img (reading_of m)

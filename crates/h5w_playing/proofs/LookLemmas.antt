@@ -4,8 +4,8 @@ use Rattle.std.specs.Prelude.{IfOk}
 use Rattle.h5w_model.specs.Lawful.{looks, Rules, ScriptState, Allowed, next_state}
 use Rattle.h5w_model.specs.declared.reply.Reply.{Reply}
 use Rattle.h5w_model.specs.declared.reply.Reply.TheVariants as replies
-use Rattle.h5w_polling.specs.OneByOne.{EndsLine, LookedOn}
-use Rattle.h5w_polling.proofs.OneByOneLemmas.{looks_one_by_one}
+use Rattle.h5w_script_laws.specs.OneByOne.{EndsLine, LookedOn}
+use Rattle.h5w_script_laws.proofs.OneByOneLemmas.{looks_one_by_one}
 use Rattle.h5w_core.specs.Worlds.{WorldView, HaveOneLog, rules_of}
 use Rattle.h5w_playing.specs.Answers.{Answers}
 

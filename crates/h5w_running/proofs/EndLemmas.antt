@@ -6,9 +6,9 @@ use Rattle.h5w_model.specs.Logs.{load, spent}
 use Rattle.h5w_shared.specs.Seats.{SeatView}
 use Rattle.h5w_space.specs.declared.Full.{Full}
 use Rattle.h5w_creation_laws.specs.CreatedFiles.{CreatedFile, described_of}
-use Rattle.h5w_session.specs.Loads.{NoPlace, first_end_of}
-use Rattle.h5w_session.specs.Sessions.{Session, cutting_of, with_rows}
-use Rattle.h5w_session.specs.declared.refusal.AppendError.{AppendError}
+use Rattle.h5w_writer.specs.Loads.{NoPlace, first_end_of}
+use Rattle.h5w_writer.specs.Sessions.{Session, cutting_of, with_rows}
+use Rattle.h5w_writer.specs.declared.refusal.AppendError.{AppendError}
 use Rattle.h5w_text.specs.Errors.{error_text}
 use Rattle.h5w_text.specs.Says.{Said, SaidUnlessMemory, whole, failed}
 use Rattle.h5w_input.specs.Scripts.{number_line_of}

@@ -14,9 +14,9 @@ use Rattle.h5w_model.specs.Numbers.{num, le, halvings, width_of, undefined}
 use Rattle.h5w_model.specs.Tables.{cell}
 use Rattle.h5w_model.specs.Findings.{Used, Valid}
 use Rattle.h5w_model.specs.declared.piece.Write.{Write}
-use Rattle.h5w_visits.specs.Ranges.{Among, AllEndBy, block_at, chunk_at}
-use Rattle.h5w_visits.specs.Indexes.{IsIndex}
-use Rattle.h5w_visits.proofs.IndexLaws.{index_of_parts}
+use Rattle.h5w_visit_laws.specs.Ranges.{Among, AllEndBy, block_at, chunk_at}
+use Rattle.h5w_visit_laws.specs.Indexes.{IsIndex}
+use Rattle.h5w_visit_laws.proofs.IndexLaws.{index_of_parts}
 use Rattle.h5w_space.specs.Space.{Space}
 use Rattle.h5w_cache.specs.Stores.{Store}
 use Rattle.h5w_cache.specs.declared.moves.Move.{Move}
@@ -30,8 +30,8 @@ use Rattle.h5w_chunks.proofs.EarlyLemmas.{rows_stand}
 use Rattle.h5w_chunks.proofs.WriteLaws.{rows_written}
 use Rattle.h5w_examples.proofs.CellLemmas.{each_cell}
 use Rattle.h5w_examples.specs.Readings.{data_name, described_by, summary_as}
-use Rattle.h5w_steps.specs.Moments.{Represents, reading_of, all_used}
-use Rattle.h5w_steps.specs.Steps.{Ends}
+use Rattle.h5w_step_laws.specs.Moments.{Represents, reading_of, all_used}
+use Rattle.h5w_step_laws.specs.Steps.{Ends}
 use Rattle.h5w_session_examples.proofs.Decisions.{disjoint_by}
 use Rattle.h5w_array_laws.specs.Among.{AreAmong}
 use Rattle.h5w_array_laws.specs.ArrayStores.{map_of, behind_of}

@@ -3,11 +3,11 @@ use Rattle.std.proofs.Common.{◌≡◌, ◌⊎◌, ℕ, ◌+◌, Bool, true, fa
 use Rattle.std.specs.Prelude.{◌&&◌, ◌||◌, ◌==◌, not, nat_le, nat_lt}
 use Rattle.std.proofs.lemmas.Bool.{leb-true, ltb-true, eqb-true, eq-eqb}
 use Rattle.h5w_model.specs.Findings.{Used, overlap_of, by_place}
-use Rattle.h5w_visits.specs.Ranges.{Among, AllAmong, AllEndBy, AllSome, AreApart, Disjoint}
-use Rattle.h5w_visits.proofs.RangeLemmas.{some_nil, some_cons, ends_nil, ends_cons}
-use Rattle.h5w_visits.proofs.OverlapLemmas.{overlap_laws}
-use Rattle.h5w_steps.specs.Moments.{Moment}
-use Rattle.h5w_steps.specs.Steps.{OffAll, Clear}
+use Rattle.h5w_visit_laws.specs.Ranges.{Among, AllAmong, AllEndBy, AllSome, AreApart, Disjoint}
+use Rattle.h5w_visit_laws.proofs.RangeLemmas.{some_nil, some_cons, ends_nil, ends_cons}
+use Rattle.h5w_visit_laws.proofs.OverlapLemmas.{overlap_laws}
+use Rattle.h5w_step_laws.specs.Moments.{Moment}
+use Rattle.h5w_step_laws.specs.Steps.{OffAll, Clear}
 
 pub both : (a b : Bool) → (a && b) ≡ true → (a ≡ true) × (b ≡ true)
 both true b h = (refl, h)

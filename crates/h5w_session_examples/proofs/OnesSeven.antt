@@ -15,15 +15,15 @@ use Rattle.h5w_model.specs.Findings.{Used}
 use Rattle.h5w_examples.specs.Readings.{data_name}
 use Rattle.h5w_examples.proofs.CellLemmas.{each_cell}
 use Rattle.h5w_examples.proofs.HeaderBytes.{header_stays}
-use Rattle.h5w_visits.specs.Ranges.{block_at, chunk_at}
-use Rattle.h5w_steps.specs.Moments.{Moment, reading_of, all_used}
-use Rattle.h5w_steps.specs.Steps.{Step, ends}
-use Rattle.h5w_steps.specs.Logs.{Goes, image_now}
-use Rattle.h5w_steps.specs.Plans.{UnseenRange}
-use Rattle.h5w_steps.specs.Writers.{Naming, Growing}
-use Rattle.h5w_steps.proofs.GoesLemmas.{event_goes, piece_goes}
-use Rattle.h5w_steps.proofs.PlanLaws.{retired_place}
-use Rattle.h5w_steps.proofs.WriterLaws.{naming_switches, growing_commits}
+use Rattle.h5w_visit_laws.specs.Ranges.{block_at, chunk_at}
+use Rattle.h5w_step_laws.specs.Moments.{Moment, reading_of, all_used}
+use Rattle.h5w_step_laws.specs.Steps.{Step, ends}
+use Rattle.h5w_step_laws.specs.Logs.{Goes, image_now}
+use Rattle.h5w_step_laws.specs.Plans.{UnseenRange}
+use Rattle.h5w_step_laws.specs.Writers.{Naming, Growing}
+use Rattle.h5w_step_laws.proofs.GoesLemmas.{event_goes, piece_goes}
+use Rattle.h5w_step_laws.proofs.PlanLaws.{retired_place}
+use Rattle.h5w_step_laws.proofs.WriterLaws.{naming_switches, growing_commits}
 use Rattle.h5w_session_examples.specs.SevenOfOnes.{seventh_chunk, third_block, super_of_seven, index_of_seven, array_of_seven, header_of_seven}
 use Rattle.h5w_session_examples.specs.Moments.{file_at, behind_six, behind_seven, table_of_six, values_of_six, values_of_seven, ones_of_five, ones_of_six, ones_of_seven}
 use Rattle.h5w_session_examples.proofs.Decisions.{disjoint_by, ends_by, off_by, clear_by, all_among_by, among_by, among_is}

@@ -15,13 +15,13 @@ use Rattle.h5w_examples.specs.OneRowFiles.{six_of_ones}
 use Rattle.h5w_examples.specs.Readings.{piece_of, data_name}
 use Rattle.h5w_examples.proofs.CellLemmas.{each_cell}
 use Rattle.h5w_examples.proofs.HeaderBytes.{header_stays}
-use Rattle.h5w_visits.specs.Ranges.{block_at}
-use Rattle.h5w_steps.specs.Moments.{Moment, reading_of, all_used}
-use Rattle.h5w_steps.specs.Steps.{Step, ends}
-use Rattle.h5w_steps.specs.Logs.{Goes, image_now}
-use Rattle.h5w_steps.specs.Writers.{Naming, Growing}
-use Rattle.h5w_steps.proofs.GoesLemmas.{event_goes, piece_goes}
-use Rattle.h5w_steps.proofs.WriterLaws.{naming_switches, growing_commits}
+use Rattle.h5w_visit_laws.specs.Ranges.{block_at}
+use Rattle.h5w_step_laws.specs.Moments.{Moment, reading_of, all_used}
+use Rattle.h5w_step_laws.specs.Steps.{Step, ends}
+use Rattle.h5w_step_laws.specs.Logs.{Goes, image_now}
+use Rattle.h5w_step_laws.specs.Writers.{Naming, Growing}
+use Rattle.h5w_step_laws.proofs.GoesLemmas.{event_goes, piece_goes}
+use Rattle.h5w_step_laws.proofs.WriterLaws.{naming_switches, growing_commits}
 use Rattle.h5w_session_examples.specs.Moments.{file_at, behind_five, behind_six, table_of_five, values_of_five, values_of_six, ones_of_five, ones_of_six}
 use Rattle.h5w_session_examples.proofs.Decisions.{disjoint_by, ends_by, off_by, clear_by}
 use Rattle.h5w_session_examples.proofs.StepHelpers.{past_goes}

@@ -3,12 +3,12 @@ use Rattle.std.proofs.Common.{◌≡◌, ℕ, ◌≤◌, List, length, refl}
 use Rattle.h5w_model.specs.Findings.{Used}
 use Rattle.h5w_model.specs.Logs.{Log, shows, flushed, and_now}
 use Rattle.h5w_model.specs.declared.piece.Write.{Write}
-use Rattle.h5w_steps.specs.Moments.{Moment}
-use Rattle.h5w_steps.specs.Steps.{Step, unseen}
-use Rattle.h5w_steps.specs.Logs.{Goes, image_now}
-use Rattle.h5w_steps.specs.Plans.{UnseenRange}
-use Rattle.h5w_steps.proofs.GoesLemmas.{piece_goes}
-use Rattle.h5w_steps.proofs.PlanLaws.{past_end}
+use Rattle.h5w_step_laws.specs.Moments.{Moment}
+use Rattle.h5w_step_laws.specs.Steps.{Step, unseen}
+use Rattle.h5w_step_laws.specs.Logs.{Goes, image_now}
+use Rattle.h5w_step_laws.specs.Plans.{UnseenRange}
+use Rattle.h5w_step_laws.proofs.GoesLemmas.{piece_goes}
+use Rattle.h5w_step_laws.proofs.PlanLaws.{past_end}
 
 -- one piece of a range that no reader reaches
 pub one_unseen : (img : List ℕ) (m : Moment) (held : List Used) (w : Write) → UnseenRange m held w.at (length w.piece) → Step img m held w m held

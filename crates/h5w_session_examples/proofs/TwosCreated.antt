@@ -12,12 +12,12 @@ use Rattle.h5w_model.specs.Numbers.{num, le, halvings, width_of, range}
 use Rattle.h5w_model.specs.Tables.{in_array}
 use Rattle.h5w_model.specs.Prefixed.{PrefixedEach}
 use Rattle.h5w_examples.specs.Readings.{described_by, data_name}
-use Rattle.h5w_visits.specs.Ranges.{block_at}
-use Rattle.h5w_visits.specs.Indexes.{IsIndex}
-use Rattle.h5w_visits.proofs.IndexLaws.{index_of_parts}
-use Rattle.h5w_steps.specs.Moments.{Represents, all_used}
-use Rattle.h5w_steps.specs.Logs.{Goes, image_now}
-use Rattle.h5w_steps.proofs.GoesLemmas.{begin_goes, reads_now}
+use Rattle.h5w_visit_laws.specs.Ranges.{block_at}
+use Rattle.h5w_visit_laws.specs.Indexes.{IsIndex}
+use Rattle.h5w_visit_laws.proofs.IndexLaws.{index_of_parts}
+use Rattle.h5w_step_laws.specs.Moments.{Represents, all_used}
+use Rattle.h5w_step_laws.specs.Logs.{Goes, image_now}
+use Rattle.h5w_step_laws.proofs.GoesLemmas.{begin_goes, reads_now}
 use Rattle.h5w_session_examples.specs.Moments.{with_none, created_twos}
 use Rattle.h5w_session_examples.proofs.Decisions.{disjoint_by, ends_by}
 

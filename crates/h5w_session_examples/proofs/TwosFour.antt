@@ -15,15 +15,15 @@ use Rattle.h5w_examples.specs.Files.{file_of_four}
 use Rattle.h5w_examples.specs.Readings.{piece_of, data_name}
 use Rattle.h5w_examples.proofs.CellLemmas.{each_cell}
 use Rattle.h5w_examples.proofs.HeaderBytes.{header_stays}
-use Rattle.h5w_visits.specs.Ranges.{block_at, chunk_at}
-use Rattle.h5w_steps.specs.Moments.{reading_of, chunk_of, cell_place}
-use Rattle.h5w_steps.specs.Steps.{Step}
-use Rattle.h5w_steps.specs.Logs.{Goes, image_now}
-use Rattle.h5w_steps.specs.Plans.{UnseenRange}
-use Rattle.h5w_steps.specs.Writers.{Growing}
-use Rattle.h5w_steps.proofs.GoesLemmas.{event_goes, piece_goes}
-use Rattle.h5w_steps.proofs.PlanLaws.{own_cells}
-use Rattle.h5w_steps.proofs.WriterLaws.{growing_commits}
+use Rattle.h5w_visit_laws.specs.Ranges.{block_at, chunk_at}
+use Rattle.h5w_step_laws.specs.Moments.{reading_of, chunk_of, cell_place}
+use Rattle.h5w_step_laws.specs.Steps.{Step}
+use Rattle.h5w_step_laws.specs.Logs.{Goes, image_now}
+use Rattle.h5w_step_laws.specs.Plans.{UnseenRange}
+use Rattle.h5w_step_laws.specs.Writers.{Growing}
+use Rattle.h5w_step_laws.proofs.GoesLemmas.{event_goes, piece_goes}
+use Rattle.h5w_step_laws.proofs.PlanLaws.{own_cells}
+use Rattle.h5w_step_laws.proofs.WriterLaws.{growing_commits}
 use Rattle.h5w_session_examples.specs.Moments.{chunks_of_two, with_three, with_four, values_of_four}
 use Rattle.h5w_session_examples.proofs.StepHelpers.{unseen_goes}
 use Rattle.h5w_session_examples.proofs.TwosThree.{three_6, goes_three_6}

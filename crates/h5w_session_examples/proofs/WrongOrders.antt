@@ -17,11 +17,11 @@ use Rattle.h5w_model.specs.Findings.{Finding, found, Used, checked_dataset, inde
 use Rattle.h5w_model.specs.declared.piece.Write.{Write}
 use Rattle.h5w_examples.specs.OneRowFiles.{six_of_ones}
 use Rattle.h5w_examples.specs.Readings.{described_by, piece_of, data_name}
-use Rattle.h5w_visits.specs.Ranges.{Among, block_at}
-use Rattle.h5w_steps.specs.Moments.{Moment, reading_of, all_used}
-use Rattle.h5w_steps.specs.Steps.{Step, unseen, ends, switches, commits, Commits, LiesIn, InChunk0}
-use Rattle.h5w_steps.specs.Logs.{Goes, image_now}
-use Rattle.h5w_steps.proofs.GoesLemmas.{event_goes, piece_goes}
+use Rattle.h5w_visit_laws.specs.Ranges.{Among, block_at}
+use Rattle.h5w_step_laws.specs.Moments.{Moment, reading_of, all_used}
+use Rattle.h5w_step_laws.specs.Steps.{Step, unseen, ends, switches, commits, Commits, LiesIn, InChunk0}
+use Rattle.h5w_step_laws.specs.Logs.{Goes, image_now}
+use Rattle.h5w_step_laws.proofs.GoesLemmas.{event_goes, piece_goes}
 use Rattle.h5w_model.specs.Datasets.{Described}
 use Rattle.h5w_laws.proofs.AnswerLemmas.{same_ok}
 use Rattle.h5w_session_examples.specs.SevenOfOnes.{third_block}

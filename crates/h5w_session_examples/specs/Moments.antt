@@ -2,11 +2,11 @@
 use Rattle.std.specs.Prelude.{ℕ, List, [], ◌∷◌, pos, ℤ}
 use Rattle.h5w_model.specs.Logs.{Log, appends, plans, shows}
 use Rattle.h5w_model.specs.Findings.{Used}
-use Rattle.h5w_visits.specs.Ranges.{block_at, chunk_at}
+use Rattle.h5w_visit_laws.specs.Ranges.{block_at, chunk_at}
 use Rattle.h5w_examples.specs.Files.{created_file}
 use Rattle.h5w_examples.specs.OneRowFiles.{empty_of_ones, five_of_ones, six_of_ones}
 use Rattle.h5w_examples.specs.Readings.{described_by, piece_of, copied_block}
-use Rattle.h5w_steps.specs.Moments.{Moment}
+use Rattle.h5w_step_laws.specs.Moments.{Moment}
 use Rattle.h5w_session_examples.specs.SevenOfOnes.{seventh_chunk, third_block, super_of_seven, index_of_seven, array_of_seven, header_of_seven}
 
 -- a file of the dataset of an array whose header is at 188 and index block at 260: its rows in a chunk, its end, the ranges behind

@@ -5,9 +5,9 @@ use Rattle.h5w_model.specs.Findings.{Used}
 use Rattle.h5w_model.specs.declared.piece.Write.{Write}
 use Rattle.h5w_examples.specs.OneRowFiles.{six_of_ones}
 use Rattle.h5w_examples.specs.Readings.{piece_of, data_name}
-use Rattle.h5w_steps.specs.Moments.{Moment}
-use Rattle.h5w_steps.specs.Steps.{Step}
-use Rattle.h5w_steps.specs.Logs.{image_now, Goes}
+use Rattle.h5w_step_laws.specs.Moments.{Moment}
+use Rattle.h5w_step_laws.specs.Steps.{Step}
+use Rattle.h5w_step_laws.specs.Logs.{image_now, Goes}
 use Rattle.h5w_session_examples.specs.SevenOfOnes.{third_block}
 use Rattle.h5w_session_examples.specs.Moments.{copied_only, copy_named, never_named, ones_of_five, ones_ended, ones_named, behind_five, behind_six}
 

@@ -1,4 +1,4 @@
-ghost use Rattle.h5w_steps.specs.Logs.{Goes};
+ghost use Rattle.h5w_step_laws.specs.Logs.{Goes};
 ghost use Rattle.h5w_examples.specs.Readings.{copied_block, data_name, two_flushes};
 ghost use Rattle.h5w_session_examples.specs.Moments.{taken_again, chunks_of_two, with_four, behind_six, ones_of_six, behind_seven, ones_of_seven};
 

@@ -3,7 +3,7 @@ use Rattle.std.proofs.Common.{◌≡◌, ◌⊎◌, ℕ, ◌^◌, ◌≤◌, Lis
 use Rattle.std.specs.Prelude.{OnOk}
 use Rattle.h5w_image.specs.View.{DiskView}
 use Rattle.h5w_opening.specs.declared.error.OpenError.TheVariants.{OutOfMemory}
-use Rattle.h5w_session.specs.Sessions.{rows_of}
+use Rattle.h5w_writer.specs.Sessions.{rows_of}
 use Rattle.h5w_text.specs.Errors.{error_text}
 use Rattle.h5w_text.specs.Says.{Said, SaidUnlessMemory}
 use Rattle.h5w_text.specs.Statuses.{status_of}
@@ -14,7 +14,7 @@ use Rattle.h5w_text.specs.declared.status.Status.{Status}
 use Rattle.h5w_text.specs.declared.status.Status.TheVariants as statuses
 use Rattle.h5w_files.proofs.ClearLemmas.{any_told}
 use Rattle.h5w_files.proofs.SinkLemmas.{gave_nothing}
-use Rattle.h5w_several_session_laws.specs.Sessions.{Sessions}
+use Rattle.h5w_several_writer_laws.specs.Sessions.{Sessions}
 use Rattle.h5w_several_open.specs.declared.beginning.Beginning.{Beginning}
 use Rattle.h5w_several_appending.specs.Appending.{BeginsNone, Finishes, FinishesBy, IsOpenOver, Settles, SettlesOn, TakesInput}
 use Rattle.h5w_several_appending.specs.Stores.{Broke, ClosedUp, datasets_of}

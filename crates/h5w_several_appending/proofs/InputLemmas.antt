@@ -8,9 +8,9 @@ use Rattle.h5w_model.specs.Datasets.{Described}
 use Rattle.h5w_model.specs.Lawful.{first_outside}
 use Rattle.h5w_model.specs.Tables.{format_limits, limit_of, needed}
 use Rattle.h5w_image.specs.View.{DiskView}
-use Rattle.h5w_session.specs.Refusals.{append_refusal, chunks_refusal}
-use Rattle.h5w_session.specs.Sessions.{Session, chunk_limit, chunks_with, rows_of, with_rows}
-use Rattle.h5w_session.specs.declared.refusal.AppendError.TheVariants as appends
+use Rattle.h5w_writer.specs.Refusals.{append_refusal, chunks_refusal}
+use Rattle.h5w_writer.specs.Sessions.{Session, chunk_limit, chunks_with, rows_of, with_rows}
+use Rattle.h5w_writer.specs.declared.refusal.AppendError.TheVariants as appends
 use Rattle.h5w_input.specs.LinesAhead.{Given, GivenUp, IntakeView, IsOver, IsWhole, LinesAhead, lines_ahead}
 use Rattle.h5w_input.specs.declared.line.LineError.{LineError}
 use Rattle.h5w_input.specs.declared.line.LineError.TheVariants as line_errors
@@ -29,7 +29,7 @@ use Rattle.h5w_several_batches.specs.SetInputs.{SaysAll, SaysBefore, SaysFirst, 
 use Rattle.h5w_several_batches.specs.declared.line.SetLine.{SetLine}
 use Rattle.h5w_several_batches.specs.declared.line.SetLine.TheVariants.{Numbers}
 use Rattle.h5w_several_batches.proofs.SaidLemmas.{Saying, first_of_all, saying_first, saying_more, says_first, says_none, says_then, says_too_much, says_whole, used-append}
-use Rattle.h5w_several_session_laws.specs.Sessions.{Sessions}
+use Rattle.h5w_several_writer_laws.specs.Sessions.{Sessions}
 use Rattle.h5w_appending.proofs.TellLemmas.{other_refusal}
 use Rattle.h5w_several_appending.specs.Appending.{ClosesOn, FlushRefused, HalfTold, IsBegun, IsReady, IsSpelled, LineCause, LinesOn, NeedsPlace, PutsAll, PutsBy, ReadyUnlessDisk, Steps, TakesInput, TakesInputFrom, TakesInputOn, TakesLine, Told, ValuesCause, ValuesRefused, ending_of, no_depth, no_memory, no_place, not_read, not_taken, out_of_range, says_nothing, too_many, wanting}
 use Rattle.h5w_several_appending.specs.Stores.{Stored, datasets_of}

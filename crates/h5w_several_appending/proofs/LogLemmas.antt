@@ -6,12 +6,12 @@ use Rattle.std.proofs.lemmas.List.Sums.{sum_by-cons}
 use Rattle.h5w_model.specs.Logs.{appended_in, appends, flushed_in}
 use Rattle.h5w_model.specs.Several.{Begun, FileLog, Happened, appends_to, pieces_in, plans_each, seen_by, shows_all, up_to}
 use Rattle.h5w_model.specs.declared.piece.Write.{Write}
-use Rattle.h5w_session.specs.Sessions.{Session}
+use Rattle.h5w_writer.specs.Sessions.{Session}
 use Rattle.h5w_batches.specs.Batches.{Batches, end_batch}
 use Rattle.h5w_appending.specs.Taken.{values_of}
 use Rattle.h5w_appending.proofs.BatchLemmas.{plan_done, plan_open}
-use Rattle.h5w_several_session_laws.specs.Sessions.{all_pending, counts_of}
-use Rattle.h5w_several_session_laws.specs.Standing.{and_then}
+use Rattle.h5w_several_writer_laws.specs.Sessions.{all_pending, counts_of}
+use Rattle.h5w_several_writer_laws.specs.Standing.{and_then}
 use Rattle.h5w_several_appending.specs.Puts.{all_shown}
 use Rattle.h5w_several_appending.specs.Stores.{EachSet, IsEither, IsSettled, IsStored}
 use Rattle.h5w_several_appending.specs.Taken.{add_to, end_each}

@@ -11,7 +11,7 @@ use Rattle.h5w_looks.specs.Still.{IsStill}
 use Rattle.h5w_opening.specs.Errors.{IsOpenKind}
 use Rattle.h5w_opening.specs.declared.error.OpenError.{OpenError}
 use Rattle.h5w_opening.specs.declared.error.OpenError.TheVariants as opens
-use Rattle.h5w_session.specs.Sessions.{Session}
+use Rattle.h5w_writer.specs.Sessions.{Session}
 use Rattle.h5w_text.specs.declared.error.ErrorLine.{ErrorLine}
 use Rattle.h5w_text.specs.declared.error.ErrorLine.TheVariants as errors
 use Rattle.h5w_files.specs.Images.{LeavesFiles, file_image, told_bytes}
@@ -24,9 +24,9 @@ use Rattle.h5w_several_open.specs.Beginnings.{HaveBegunBy, IsAllAnswer, IsBegunA
 use Rattle.h5w_several_open.specs.Begins.{ReadsIt}
 use Rattle.h5w_several_open.specs.Sessions.{BeginsWith}
 use Rattle.h5w_several_open.specs.Stands.{opened_file}
-use Rattle.h5w_several_session.specs.Flows.{all_waits}
-use Rattle.h5w_several_session_laws.specs.Sessions.{Sessions, all_pending, keeping}
-use Rattle.h5w_several_session_laws.specs.Standing.{StandsAll}
+use Rattle.h5w_several_writer.specs.Flows.{all_waits}
+use Rattle.h5w_several_writer_laws.specs.Sessions.{Sessions, all_pending, keeping}
+use Rattle.h5w_several_writer_laws.specs.Standing.{StandsAll}
 use Rattle.h5w_several_open.specs.declared.beginning.Beginning.{Beginning}
 use Rattle.h5w_several_appending.specs.Appending.{IsBegun, IsKept, IsOpenOver}
 use Rattle.h5w_several_appending.specs.Tells.{TellsWhy, Unopened}

@@ -6,14 +6,14 @@ use Rattle.std.proofs.Math.Nat.{zero-mul}
 use Rattle.h5w_model.specs.Datasets.{Described}
 use Rattle.h5w_model.specs.Relations.{AllPaired}
 use Rattle.h5w_model.specs.declared.piece.Write.{Write}
-use Rattle.h5w_session.specs.Sessions.{Session, rows_of, with_values}
+use Rattle.h5w_writer.specs.Sessions.{Session, rows_of, with_values}
 use Rattle.h5w_batches.specs.Batches.{Batches, no_batches}
 use Rattle.h5w_appending.specs.Appends.{grown}
 use Rattle.h5w_appending.specs.Taken.{rows_after}
 use Rattle.h5w_several_batches.specs.SetLines.{columns_at}
-use Rattle.h5w_several_session.specs.Flows.{PlansPart, all_waits}
-use Rattle.h5w_several_session_laws.specs.Sessions.{AreSameBut, all_pending}
-use Rattle.h5w_several_session_laws.specs.Valid.{names_in}
+use Rattle.h5w_several_writer.specs.Flows.{PlansPart, all_waits}
+use Rattle.h5w_several_writer_laws.specs.Sessions.{AreSameBut, all_pending}
+use Rattle.h5w_several_writer_laws.specs.Valid.{names_in}
 use Rattle.h5w_appending.proofs.ShutLemmas.{none_waiting}
 use Rattle.h5w_several_appending.specs.Puts.{AreAlike, IsAlike}
 use Rattle.h5w_several_appending.specs.Stores.{EachTaken, IsTaken, datasets_of}

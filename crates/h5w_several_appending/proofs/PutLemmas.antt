@@ -10,10 +10,10 @@ use Rattle.h5w_image.proofs.DiskLemmas.{rose_from}
 use Rattle.h5w_files.specs.Images.{LeavesFiles}
 use Rattle.h5w_appending.specs.Puts.{AllAre, after_puts, counts_of, writes_of}
 use Rattle.h5w_appending.proofs.PutLemmas.{are_both, are_of, length-writes, no_puts, puts_twice, writes-append}
-use Rattle.h5w_session.specs.Sessions.{Session}
-use Rattle.h5w_several_session.specs.Flows.{KeepsPart, KeepsParts}
-use Rattle.h5w_several_session_laws.specs.Sessions.{Sessions, all_pending}
-use Rattle.h5w_several_session_laws.specs.Standing.{StandsAll, and_then}
+use Rattle.h5w_writer.specs.Sessions.{Session}
+use Rattle.h5w_several_writer.specs.Flows.{KeepsPart, KeepsParts}
+use Rattle.h5w_several_writer_laws.specs.Sessions.{Sessions, all_pending}
+use Rattle.h5w_several_writer_laws.specs.Standing.{StandsAll, and_then}
 use Rattle.h5w_several_appending.specs.Puts.{AreAlike, KeepsAll, PutsPieces, PutsSome, all_shown}
 
 -- ---- What is kept

@@ -5,16 +5,16 @@ use Rattle.h5w_model.specs.Superblock.{super_at, super_bytes}
 use Rattle.h5w_model.specs.declared.piece.Write.{Write}
 use Rattle.h5w_model.specs.declared.root.Super.{Super}
 use Rattle.h5w_image.specs.View.{DiskView}
-use Rattle.h5w_session.specs.PartLaws.{super_piece}
-use Rattle.h5w_session.specs.Sessions.{Session, cleared, rows_of}
+use Rattle.h5w_writer.specs.PartLaws.{super_piece}
+use Rattle.h5w_writer.specs.Sessions.{Session, cleared, rows_of}
 use Rattle.h5w_text.specs.Streams.{SourceView, SinkView}
 use Rattle.h5w_text.specs.declared.error.ErrorLine.{ErrorLine}
 use Rattle.h5w_appending.specs.Puts.{counts_of, writes_of}
 use Rattle.h5w_appending.proofs.PutLemmas.{are_both, are_of, writes-append}
 use Rattle.h5w_appending.proofs.StoreLemmas.{agrees, puts_more, rose_halted, writes_both}
-use Rattle.h5w_several_session_laws.specs.Sessions.{Sessions, all_pending, closed_all, closed_part, closed_parts, closed_super}
-use Rattle.h5w_several_session_laws.specs.Standing.{StandsAll}
-use Rattle.h5w_several_session_laws.specs.Valid.{names_in}
+use Rattle.h5w_several_writer_laws.specs.Sessions.{Sessions, all_pending, closed_all, closed_part, closed_parts, closed_super}
+use Rattle.h5w_several_writer_laws.specs.Standing.{StandsAll}
+use Rattle.h5w_several_writer_laws.specs.Valid.{names_in}
 use Rattle.h5w_several_appending.specs.Appending.{ClosesBy, PutsAll, PutsBy, PutsHalted, Settles, TakesInput, Told}
 use Rattle.h5w_several_appending.specs.Stores.{IsEither, IsHalted, IsStored, datasets_of}
 use Rattle.h5w_several_appending.specs.Taken.{SetBatches, after_all, close_each, no_sets, of_all, rows_with}

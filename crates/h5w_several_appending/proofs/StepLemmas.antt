@@ -7,10 +7,10 @@ use Rattle.h5w_model.specs.Lawful.{first_outside}
 use Rattle.h5w_model.specs.Several.{FileLog, appends_to, plans_each}
 use Rattle.h5w_model.specs.declared.piece.Write.{Write}
 use Rattle.h5w_image.specs.View.{DiskView, IsThere, Same}
-use Rattle.h5w_session.specs.Refusals.{append_refusal}
-use Rattle.h5w_session.specs.Sessions.{AreRows, Session, rows_of}
-use Rattle.h5w_session.specs.declared.refusal.AppendError.{AppendError}
-use Rattle.h5w_session.specs.declared.refusal.AppendError.TheVariants as append_errors
+use Rattle.h5w_writer.specs.Refusals.{append_refusal}
+use Rattle.h5w_writer.specs.Sessions.{AreRows, Session, rows_of}
+use Rattle.h5w_writer.specs.declared.refusal.AppendError.{AppendError}
+use Rattle.h5w_writer.specs.declared.refusal.AppendError.TheVariants as append_errors
 use Rattle.h5w_text.specs.Streams.{SinkView, Gave, GaveSome}
 use Rattle.h5w_text.specs.declared.error.ErrorLine.TheVariants as errors
 use Rattle.h5w_batches.specs.Batches.{AreWholeRows}
@@ -25,10 +25,10 @@ use Rattle.h5w_appending.proofs.OpenLemmas.{there_on}
 use Rattle.h5w_appending.proofs.PutLemmas.{length-writes, puts_there}
 use Rattle.h5w_several_batches.specs.SetLines.{HasNoMeaning, columns_at, set_line_of}
 use Rattle.h5w_several_batches.specs.declared.line.SetLine.TheVariants.{Numbers, Use}
-use Rattle.h5w_several_session.specs.Flows.{PlansAll, all_waits}
-use Rattle.h5w_several_session.specs.Refusals.{HasRoomForAll, append_refusal_in}
-use Rattle.h5w_several_session_laws.specs.Sessions.{AppendsTo, AreParts, AreSessions, IsPart, Sessions, all_pending, counts_of as pieces_of}
-use Rattle.h5w_several_session_laws.specs.Standing.{StandsAll, and_then}
+use Rattle.h5w_several_writer.specs.Flows.{PlansAll, all_waits}
+use Rattle.h5w_several_writer.specs.Refusals.{HasRoomForAll, append_refusal_in}
+use Rattle.h5w_several_writer_laws.specs.Sessions.{AppendsTo, AreParts, AreSessions, IsPart, Sessions, all_pending, counts_of as pieces_of}
+use Rattle.h5w_several_writer_laws.specs.Standing.{StandsAll, and_then}
 use Rattle.h5w_appending.proofs.StepLemmas.{nothing_put}
 use Rattle.h5w_several_appending.specs.Appending.{AppendsAll, AppendsBy, ClosesOn, FlushesBy, HasNone, IsReady, LineCause, LinesOn, Planned, PutsAll, PutsBy, ReadyUnlessDisk, SaysOn, Told, Unflushed, ending_of, not_read, not_taken, says_nothing, wanting}
 use Rattle.h5w_several_appending.specs.Stores.{Stored, datasets_of}

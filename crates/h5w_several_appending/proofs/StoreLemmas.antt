@@ -9,7 +9,7 @@ use Rattle.h5w_model.specs.declared.piece.Write.{Write}
 use Rattle.h5w_model.specs.declared.root.Super.{Super}
 use Rattle.h5w_image.specs.View.{DiskView}
 use Rattle.h5w_image.proofs.DiskLemmas.{rose_from}
-use Rattle.h5w_session.specs.Sessions.{Session, stopped_of, with_values}
+use Rattle.h5w_writer.specs.Sessions.{Session, stopped_of, with_values}
 use Rattle.h5w_batches.specs.Batches.{Batches, no_batches}
 use Rattle.h5w_files.specs.Images.{LeavesFiles}
 use Rattle.h5w_appending.specs.Appending.{Unput}
@@ -19,11 +19,11 @@ use Rattle.h5w_appending.proofs.PutLemmas.{are_both, are_of, no_puts, writes-app
 use Rattle.h5w_appending.proofs.StoreLemmas.{agrees, puts_more, rose_halted, unput_more, writes_both, first_more}
 use Rattle.h5w_several_batches.specs.SetLines.{columns_at}
 use Rattle.h5w_several_open.specs.Stands.{opened_file}
-use Rattle.h5w_several_session.specs.Flows.{all_waits}
-use Rattle.h5w_several_session_laws.specs.Sessions.{AppendsTo, Sessions, all_pending, counts_of as pieces_of}
-use Rattle.h5w_several_session_laws.specs.Standing.{StandsAll, and_then}
-use Rattle.h5w_several_session_laws.specs.Valid.{names_in}
-use Rattle.h5w_several_session_laws.proofs.GiveLemmas.{standing_all}
+use Rattle.h5w_several_writer.specs.Flows.{all_waits}
+use Rattle.h5w_several_writer_laws.specs.Sessions.{AppendsTo, Sessions, all_pending, counts_of as pieces_of}
+use Rattle.h5w_several_writer_laws.specs.Standing.{StandsAll, and_then}
+use Rattle.h5w_several_writer_laws.specs.Valid.{names_in}
+use Rattle.h5w_several_writer_laws.proofs.GiveLemmas.{standing_all}
 use Rattle.h5w_several_appending.specs.Appending.{AppendsAll, Halted, Planned, PutsAll, PutsHalted, Unflushed}
 use Rattle.h5w_several_appending.specs.Puts.{AreAlike, PutsPieces, PutsSome, all_shown}
 use Rattle.h5w_several_appending.specs.Stores.{Broke, EachSet, EachTaken, HasTaken, IsEither, IsHalted, IsLogOf, IsSettled, Settled, Stored, datasets_of}

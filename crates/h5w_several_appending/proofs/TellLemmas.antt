@@ -16,7 +16,7 @@ use Rattle.h5w_model.specs.declared.piece.Write.{Write}
 use Rattle.h5w_model.specs.declared.root.Super.{Super}
 use Rattle.h5w_image.specs.View.{DiskState, DiskView}
 use Rattle.h5w_space.specs.declared.Full.{Full}
-use Rattle.h5w_session.specs.Sessions.{Session, cleared}
+use Rattle.h5w_writer.specs.Sessions.{Session, cleared}
 use Rattle.h5w_files.specs.Images.{LeavesFiles, told_bytes}
 use Rattle.h5w_batches.specs.Batches.{Batches}
 use Rattle.h5w_appending.specs.Puts.{after_puts, writes_of}
@@ -29,15 +29,15 @@ use Rattle.h5w_text.specs.declared.error.ErrorLine.{ErrorLine}
 use Rattle.h5w_several_laws.proofs.SeenLemmas.{seen_laws}
 use Rattle.h5w_several_open.specs.Beginnings.{HadFlags, HasDatasetBy, root_by, shut_by}
 use Rattle.h5w_several_open.proofs.BeginningLemmas.{shut_root}
-use Rattle.h5w_several_session_laws.specs.Bounds.{cuttings_of}
-use Rattle.h5w_several_session_laws.specs.Laws.{PartTells}
-use Rattle.h5w_several_session_laws.specs.Sessions.{Sessions, keeping}
-use Rattle.h5w_several_session_laws.specs.Standing.{StandsAll}
-use Rattle.h5w_several_session_laws.specs.Together.{file_at}
-use Rattle.h5w_several_session_laws.specs.Valid.{names_in}
-use Rattle.h5w_several_session_laws.proofs.GiveLemmas.{standing_all}
-use Rattle.h5w_several_session_laws.proofs.SeenLemmas.{length_pieces}
-use Rattle.h5w_several_session_laws.proofs.TogetherLemmas.{all_names_laws}
+use Rattle.h5w_several_writer_laws.specs.Bounds.{cuttings_of}
+use Rattle.h5w_several_writer_laws.specs.Laws.{PartTells}
+use Rattle.h5w_several_writer_laws.specs.Sessions.{Sessions, keeping}
+use Rattle.h5w_several_writer_laws.specs.Standing.{StandsAll}
+use Rattle.h5w_several_writer_laws.specs.Together.{file_at}
+use Rattle.h5w_several_writer_laws.specs.Valid.{names_in}
+use Rattle.h5w_several_writer_laws.proofs.GiveLemmas.{standing_all}
+use Rattle.h5w_several_writer_laws.proofs.SeenLemmas.{length_pieces}
+use Rattle.h5w_several_writer_laws.proofs.TogetherLemmas.{all_names_laws}
 use Rattle.h5w_several_open.specs.declared.beginning.Beginning.{Beginning}
 use Rattle.h5w_several_appending.specs.Appending.{IsOpenOver, NeedsPlace}
 use Rattle.h5w_several_appending.specs.Stores.{Broke, ClosedUp, EachSet, EachTaken, IsEither, IsHalted, IsLogOf, IsSettled, IsStored, OfEachLog, datasets_of}

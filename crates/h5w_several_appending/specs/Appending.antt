@@ -7,9 +7,9 @@ use Rattle.h5w_model.specs.Relations.{AllPaired}
 use Rattle.h5w_model.specs.Several.{Begun, FileLog, appends_to, plans_each}
 use Rattle.h5w_image.specs.View.{DiskView, IsThere}
 use Rattle.h5w_space.specs.declared.Full.{Full}
-use Rattle.h5w_session.specs.Refusals.{append_refusal}
-use Rattle.h5w_session.specs.Sessions.{Session, rows_of}
-use Rattle.h5w_session.specs.declared.refusal.AppendError.TheVariants as append_errors
+use Rattle.h5w_writer.specs.Refusals.{append_refusal}
+use Rattle.h5w_writer.specs.Sessions.{Session, rows_of}
+use Rattle.h5w_writer.specs.declared.refusal.AppendError.TheVariants as append_errors
 use Rattle.h5w_text.specs.Streams.{SourceView, SinkView, Gave}
 use Rattle.h5w_text.specs.declared.error.ErrorLine.{ErrorLine}
 use Rattle.h5w_text.specs.declared.error.ErrorLine.TheVariants as errors
@@ -21,10 +21,10 @@ use Rattle.h5w_several_open.specs.Begins.{ReadsIt}
 use Rattle.h5w_several_open.specs.Beginnings.{HaveBegunBy, IsBegunAll}
 use Rattle.h5w_several_open.specs.declared.beginning.Beginning.{Beginning}
 use Rattle.h5w_several_open.specs.Stands.{opened_file}
-use Rattle.h5w_several_session.specs.Flows.{PlansAll, all_waits}
-use Rattle.h5w_several_session.specs.Refusals.{NoPlaceAll}
-use Rattle.h5w_several_session_laws.specs.Sessions.{AppendsTo, SameButHeld, Sessions, all_pending, counts_of as pieces_of, keeping, stopped_all}
-use Rattle.h5w_several_session_laws.specs.Standing.{StandsAll, and_then}
+use Rattle.h5w_several_writer.specs.Flows.{PlansAll, all_waits}
+use Rattle.h5w_several_writer.specs.Refusals.{NoPlaceAll}
+use Rattle.h5w_several_writer_laws.specs.Sessions.{AppendsTo, SameButHeld, Sessions, all_pending, counts_of as pieces_of, keeping, stopped_all}
+use Rattle.h5w_several_writer_laws.specs.Standing.{StandsAll, and_then}
 use Rattle.h5w_several_batches.specs.SetLines.{set_line_of, used_after}
 use Rattle.h5w_several_batches.specs.SetInputs.{SaysAll}
 use Rattle.h5w_several_batches.specs.declared.line.SetLine.{SetLine}

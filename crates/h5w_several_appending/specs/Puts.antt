@@ -6,9 +6,9 @@ use Rattle.h5w_model.specs.declared.piece.Write.{Write}
 use Rattle.h5w_image.specs.View.{DiskView}
 use Rattle.h5w_files.specs.Images.{LeavesFiles}
 use Rattle.h5w_appending.specs.Puts.{AllAre, after_puts, counts_of, writes_of}
-use Rattle.h5w_session.specs.Sessions.{Session}
-use Rattle.h5w_several_session_laws.specs.Sessions.{Sessions, all_pending}
-use Rattle.h5w_several_session_laws.specs.Standing.{StandsAll, and_then}
+use Rattle.h5w_writer.specs.Sessions.{Session}
+use Rattle.h5w_several_writer_laws.specs.Sessions.{Sessions, all_pending}
+use Rattle.h5w_several_writer_laws.specs.Standing.{StandsAll, and_then}
 
 -- the log once these pieces became visible, the oldest first
 abbrev pub all_shown : List Write → FileLog → FileLog

@@ -8,16 +8,16 @@ use Rattle.h5w_model.specs.Superblock.{super_at, super_bytes}
 use Rattle.h5w_model.specs.declared.piece.Write.{Write}
 use Rattle.h5w_model.specs.declared.root.Super.{Super}
 use Rattle.h5w_image.specs.View.{DiskView}
-use Rattle.h5w_session.specs.Sessions.{Session, cleared}
+use Rattle.h5w_writer.specs.Sessions.{Session, cleared}
 use Rattle.h5w_files.specs.Images.{LeavesFiles}
 use Rattle.h5w_batches.specs.Batches.{Batches, end_batch}
 use Rattle.h5w_appending.specs.Appends.{grown}
 use Rattle.h5w_appending.specs.Puts.{AgreesAtFirst, AllAre, ComesFirst, after_puts, counts_of, writes_of}
 use Rattle.h5w_appending.specs.Taken.{rows_after, values_of}
 use Rattle.h5w_several_open.specs.Stands.{opened_file}
-use Rattle.h5w_several_session_laws.specs.Sessions.{Sessions, all_pending}
-use Rattle.h5w_several_session_laws.specs.Standing.{StandsAll}
-use Rattle.h5w_several_session_laws.specs.Valid.{names_in}
+use Rattle.h5w_several_writer_laws.specs.Sessions.{Sessions, all_pending}
+use Rattle.h5w_several_writer_laws.specs.Standing.{StandsAll}
+use Rattle.h5w_several_writer_laws.specs.Valid.{names_in}
 use Rattle.h5w_several_appending.specs.Taken.{SetBatches}
 
 -- ---- Its datasets

@@ -1,7 +1,7 @@
 -- What an append to several datasets takes of its input: the batches of each dataset, and how many rows it has with them.
 use Rattle.std.specs.Prelude.{ℕ, zero, suc, Bool, true, ◌&&◌, ◌==◌, List, [], ◌∷◌, ◌++◌, codes, length, map, if◌then◌else◌, ℤ}
 use Rattle.h5w_model.specs.Datasets.{Described}
-use Rattle.h5w_session.specs.Sessions.{Session}
+use Rattle.h5w_writer.specs.Sessions.{Session}
 use Rattle.h5w_text.specs.Streams.{SourceView}
 use Rattle.h5w_text.specs.Table.{numbers_text}
 use Rattle.h5w_batches.specs.Batches.{Batches, end_batch, no_batches}

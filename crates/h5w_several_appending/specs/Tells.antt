@@ -16,7 +16,7 @@ use Rattle.h5w_model.specs.declared.root.Super.{Super}
 use Rattle.h5w_image.specs.View.{DiskView, IsThere, file}
 use Rattle.h5w_space.specs.declared.Full.{Full}
 use Rattle.h5w_opening.specs.declared.error.OpenError.{OpenError}
-use Rattle.h5w_session.specs.Sessions.{with_rows}
+use Rattle.h5w_writer.specs.Sessions.{with_rows}
 use Rattle.h5w_text.specs.Errors.{error_text}
 use Rattle.h5w_text.specs.Streams.{SourceView, SinkView, Gave, GaveSome}
 use Rattle.h5w_text.specs.declared.error.ErrorLine.{ErrorLine}
@@ -36,7 +36,7 @@ use Rattle.h5w_several_open.specs.Beginnings.{HadFlags, IsNoneBegun, shut_by}
 use Rattle.h5w_several_open.specs.declared.beginning.Beginning.{Beginning}
 use Rattle.h5w_several_open.specs.Begins.{ReadsIt}
 use Rattle.h5w_several_open.specs.Stands.{opened_file}
-use Rattle.h5w_several_session_laws.specs.Together.{file_at}
+use Rattle.h5w_several_writer_laws.specs.Together.{file_at}
 use Rattle.h5w_several_batches.specs.SetLines.{set_line_of}
 use Rattle.h5w_several_batches.specs.SetInputs.{SaysAll, SaysBefore, SaysTooMuch, SaysWhole}
 use Rattle.h5w_several_batches.specs.declared.line.SetLine.{SetLine}

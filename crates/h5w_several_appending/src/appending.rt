@@ -1,7 +1,7 @@
 //! The command itself.
 ghost use Rattle.std.specs.Prelude.{◌≡◌, ◌<◌, ◌≤◌, ◌+◌, ◌^◌, ℕ, length, Ok, OnOk, map};
 ghost use Rattle.std.specs.List.{All};
-ghost use Rattle.h5w_session.specs.Sessions.{rows_of};
+ghost use Rattle.h5w_writer.specs.Sessions.{rows_of};
 ghost use Rattle.h5w_input.specs.LinesAhead.{lines_ahead};
 ghost use Rattle.h5w_batches.specs.Inputs.{SameSource, input_limit, outside};
 ghost use Rattle.h5w_several_batches.specs.SetLines.{columns_at};
@@ -18,7 +18,7 @@ use h5w_image::Disk;
 use h5w_input::{Intake, Lines, Next};
 use h5w_names::Names;
 use h5w_several_open::Beginning;
-use h5w_several_session::SeveralWriter;
+use h5w_several_writer::SeveralWriter;
 use h5w_text::{ErrorLine, Sink, Source, Status, say, tell, write_numbers};
 use std::alloc::Global;
 

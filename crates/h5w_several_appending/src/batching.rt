@@ -13,7 +13,7 @@ use h5w_files::DiskImage;
 use h5w_image::Disk;
 use h5w_input::{LineError, TextLine};
 use h5w_several_batches::{BatchError, SetLine, set_line};
-use h5w_several_session::{AppendError, FlushError, SeveralWriter};
+use h5w_several_writer::{AppendError, FlushError, SeveralWriter};
 use h5w_text::{ErrorLine, Sink, write_numbers};
 use std::alloc::Global;
 

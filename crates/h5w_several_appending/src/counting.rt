@@ -1,10 +1,10 @@
 //! What a session counts of each of its datasets.
 ghost use Rattle.std.specs.Prelude.{◌≡◌, ◌≤◌, ℕ, map};
-ghost use Rattle.h5w_session.specs.Sessions.{rows_of};
+ghost use Rattle.h5w_writer.specs.Sessions.{rows_of};
 ghost use Rattle.h5w_several_batches.specs.SetLines.{columns_at};
 ghost use Rattle.h5w_several_appending.specs.Taken.{columns_in};
 
-use h5w_several_session::{Parts, SeveralWriter};
+use h5w_several_writer::{Parts, SeveralWriter};
 
 /// How many rows were appended to each dataset.
 pub fn rows_each(session: &SeveralWriter) -> Parts

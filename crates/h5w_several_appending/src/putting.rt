@@ -3,15 +3,15 @@ ghost use Rattle.std.specs.Prelude.{◌≡◌, ◌≤◌, ◌+◌, [], ◌∷◌
 ghost use Rattle.h5w_image.specs.View.{IsThere};
 ghost use Rattle.h5w_model.specs.Several.{FileLog};
 ghost use Rattle.h5w_model.specs.Superblock.{super_at, super_bytes};
-ghost use Rattle.h5w_session.specs.PartLaws.{super_piece};
-ghost use Rattle.h5w_several_session_laws.specs.Sessions.{all_pending, closed_all, closed_super};
-ghost use Rattle.h5w_several_session_laws.specs.Standing.{StandsAll};
+ghost use Rattle.h5w_writer.specs.PartLaws.{super_piece};
+ghost use Rattle.h5w_several_writer_laws.specs.Sessions.{all_pending, closed_all, closed_super};
+ghost use Rattle.h5w_several_writer_laws.specs.Standing.{StandsAll};
 ghost use Rattle.h5w_several_appending.specs.Puts.{PutsPieces, PutsSome};
 ghost use Rattle.h5w_several_appending.specs.Appending.{PutsBy};
 
 use crate::batching::Ending;
 use h5w_image::{Disk, Failed};
-use h5w_several_session::SeveralWriter;
+use h5w_several_writer::SeveralWriter;
 
 /// Puts the session's oldest pending piece into the file.
 #[tactic(auto, using(h5w_image::proofs::DiskLemmas::kept))]

@@ -12,22 +12,22 @@ use Rattle.h5w_model.specs.declared.reply.Reply.TheVariants as replies
 use Rattle.h5w_image.specs.Memory.{MemView}
 use Rattle.h5w_image.specs.View.{Same}
 use Rattle.h5w_steady.specs.Steady.{steady}
-use Rattle.h5w_session.specs.Early.{dirty_of}
-use Rattle.h5w_session.specs.Refusals.{append_refusal}
-use Rattle.h5w_session.specs.Sessions.{AreRows, Session, chunk_limit, chunks_with, rows_of, with_values}
-use Rattle.h5w_session.specs.declared.refusal.AppendError.{AppendError}
-use Rattle.h5w_session.specs.declared.refusal.AppendError.TheVariants as errors
-use Rattle.h5w_session_laws.proofs.PieceLemmas.{some_is}
-use Rattle.h5w_several_session.specs.Refusals.{HasRoomForAll, append_refusal_in}
-use Rattle.h5w_several_session.proofs.EndLemmas.{get_set, part_of, same_part}
-use Rattle.h5w_several_session_laws.specs.Sessions.{AppendsTo, AreSessions, Sessions, all_pending}
-use Rattle.h5w_several_session_laws.specs.Standing.{StandsAll, and_then}
-use Rattle.h5w_several_session_laws.proofs.FlushAllLemmas.{back_nil, front_nil}
+use Rattle.h5w_writer.specs.Early.{dirty_of}
+use Rattle.h5w_writer.specs.Refusals.{append_refusal}
+use Rattle.h5w_writer.specs.Sessions.{AreRows, Session, chunk_limit, chunks_with, rows_of, with_values}
+use Rattle.h5w_writer.specs.declared.refusal.AppendError.{AppendError}
+use Rattle.h5w_writer.specs.declared.refusal.AppendError.TheVariants as errors
+use Rattle.h5w_writer_laws.proofs.PieceLemmas.{some_is}
+use Rattle.h5w_several_writer.specs.Refusals.{HasRoomForAll, append_refusal_in}
+use Rattle.h5w_several_writer.proofs.EndLemmas.{get_set, part_of, same_part}
+use Rattle.h5w_several_writer_laws.specs.Sessions.{AppendsTo, AreSessions, Sessions, all_pending}
+use Rattle.h5w_several_writer_laws.specs.Standing.{StandsAll, and_then}
+use Rattle.h5w_several_writer_laws.proofs.FlushAllLemmas.{back_nil, front_nil}
 use Rattle.h5w_several_scripts.specs.Scripts.{AllowedAll, FileState, asks, next_all, says}
-use Rattle.h5w_several_worlds.specs.Worlds.{HaveOneFileLog}
-use Rattle.h5w_several_worlds.proofs.AppendLemmas.{append_steps}
-use Rattle.h5w_several_worlds.proofs.RefusalLemmas.{all_refused_steps}
-use Rattle.h5w_several_worlds.proofs.StepLemmas.{part_there}
+use Rattle.h5w_several_world_laws.specs.Worlds.{HaveOneFileLog}
+use Rattle.h5w_several_world_laws.proofs.AppendLemmas.{append_steps}
+use Rattle.h5w_several_world_laws.proofs.RefusalLemmas.{all_refused_steps}
+use Rattle.h5w_several_world_laws.proofs.StepLemmas.{part_there}
 use Rattle.h5w_core.proofs.AppendLemmas.{IsOwn}
 use Rattle.h5w_several_core.specs.Places.{place_at}
 use Rattle.h5w_several_core.specs.Worlds.{AreAllMade, AreRowsIn, FileSteps, HaveFileLog, HoldsAll, IsPast, MayWantMemoryIn, SeveralView, logged_in, pollings_of, rules_of}

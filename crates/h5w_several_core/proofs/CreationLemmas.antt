@@ -23,12 +23,12 @@ use Rattle.h5w_creation.specs.declared.form.Form.{Form}
 use Rattle.h5w_creation_laws.specs.CreatedFiles.{CreatedFile}
 use Rattle.h5w_form.specs.NewFiles.{new_file}
 use Rattle.h5w_options.specs.declared.options.Options.{Options}
-use Rattle.h5w_polling.specs.Polling.{MayPoll, Polling, now}
-use Rattle.h5w_session.specs.Creations.{places_to}
-use Rattle.h5w_session.specs.Sessions.{AllEndBy, Session}
-use Rattle.h5w_session.proofs.CreatingLemmas.{new_made, new_roomy, writes_end}
-use Rattle.h5w_session.proofs.PastLemmas.{ends_later}
-use Rattle.h5w_session_laws.proofs.PieceLemmas.{some_is}
+use Rattle.h5w_script_laws.specs.Polling.{MayPoll, Polling, now}
+use Rattle.h5w_writer.specs.Creations.{places_to}
+use Rattle.h5w_writer.specs.Sessions.{AllEndBy, Session}
+use Rattle.h5w_writer.proofs.CreatingLemmas.{new_made, new_roomy, writes_end}
+use Rattle.h5w_writer.proofs.PastLemmas.{ends_later}
+use Rattle.h5w_writer_laws.proofs.PieceLemmas.{some_is}
 use Rattle.h5w_several_creation.specs.Forms.{AreNames, all_by, each_by}
 use Rattle.h5w_several_creation.proofs.SetLemmas.{are_creatable, same_forms}
 use Rattle.h5w_several_creation_laws.specs.SeveralFiles.{AllNamed, AreCreatable, block_behind, created_writes, end_behind, end_from, end_of, first_place, index_behind, super_of}
@@ -37,16 +37,16 @@ use Rattle.h5w_several_creation_laws.proofs.StandLaws.{several_sizes}
 use Rattle.h5w_several_creating.specs.Created.{AreIndexes, IsShownAll, begun_of, created_part, created_parts, shown_all, shown_file, showing_all}
 use Rattle.h5w_several_creating.proofs.StandLemmas.{many_begun, many_parts, none_pending}
 use Rattle.h5w_several_laws.proofs.SeenLemmas.{seen_laws}
-use Rattle.h5w_several_session.specs.Refusals.{HasRoomForAll}
-use Rattle.h5w_several_session_laws.specs.Sessions.{Sessions, all_pending, counts_of}
-use Rattle.h5w_several_session_laws.specs.Standing.{StandsAll}
-use Rattle.h5w_several_session_laws.proofs.GiveLemmas.{standing_all}
+use Rattle.h5w_several_writer.specs.Refusals.{HasRoomForAll}
+use Rattle.h5w_several_writer_laws.specs.Sessions.{Sessions, all_pending, counts_of}
+use Rattle.h5w_several_writer_laws.specs.Standing.{StandsAll}
+use Rattle.h5w_several_writer_laws.proofs.GiveLemmas.{standing_all}
 use Rattle.h5w_several_scripts.specs.Scripts.{FileState, SetState, due, first_in}
 use Rattle.h5w_several_scripts.specs.Polled.{FilePolled, IsPolled, Places, readers_of}
 use Rattle.h5w_several_scripts.proofs.PolledLemmas.{not_placed}
-use Rattle.h5w_several_worlds.specs.Beginnings.{IsNewFor}
-use Rattle.h5w_several_worlds.specs.Worlds.{AreStatesOf, HaveOneFileLog, polling_in, rules_in}
-use Rattle.h5w_several_worlds.proofs.StepLemmas.{begun_there, part_there, state_at, states_length}
+use Rattle.h5w_several_world_laws.specs.Beginnings.{IsNewFor}
+use Rattle.h5w_several_world_laws.specs.Worlds.{AreStatesOf, HaveOneFileLog, polling_in, rules_in}
+use Rattle.h5w_several_world_laws.proofs.StepLemmas.{begun_there, part_there, state_at, states_length}
 use Rattle.h5w_core.specs.Worlds.{rules_for}
 use Rattle.h5w_several_core.specs.Creation.{AllSome, CreatesAll, new_files}
 use Rattle.h5w_several_core.specs.Places.{nobody, place_at, seated, vacant}

@@ -8,17 +8,17 @@ use Rattle.std.proofs.lemmas.Option.{slice_get_within}
 use Rattle.h5w_model.specs.Lawful.{ReaderState, ScriptState, put_reader, reader_in}
 use Rattle.h5w_model.specs.Logs.{Log}
 use Rattle.h5w_model.specs.Unfinished.{Reader}
-use Rattle.h5w_polling.specs.Polling.{MayPoll, Polling}
-use Rattle.h5w_polling.specs.Scripts.{Readers}
-use Rattle.h5w_polling.proofs.PutLemmas.{put_other}
-use Rattle.h5w_session.specs.Sessions.{Session}
-use Rattle.h5w_session_laws.proofs.PieceLemmas.{some_is}
-use Rattle.h5w_several_session_laws.specs.Sessions.{Sessions}
+use Rattle.h5w_script_laws.specs.Polling.{MayPoll, Polling}
+use Rattle.h5w_script_laws.specs.Scripts.{Readers}
+use Rattle.h5w_script_laws.proofs.PutLemmas.{put_other}
+use Rattle.h5w_writer.specs.Sessions.{Session}
+use Rattle.h5w_writer_laws.proofs.PieceLemmas.{some_is}
+use Rattle.h5w_several_writer_laws.specs.Sessions.{Sessions}
 use Rattle.h5w_several_scripts.specs.Scripts.{FileState, SetState}
 use Rattle.h5w_several_scripts.specs.Polled.{FilePolled, IsPolled, Places, readers_of}
 use Rattle.h5w_several_scripts.proofs.PolledLemmas.{placed_here, set_there}
 use Rattle.h5w_several_scripts.proofs.SetLemmas.{got_is}
-use Rattle.h5w_several_worlds.specs.Worlds.{AreStatesOf, HaveOneFileLog, IsStateOfPart}
+use Rattle.h5w_several_world_laws.specs.Worlds.{AreStatesOf, HaveOneFileLog, IsStateOfPart}
 use Rattle.h5w_core.specs.Readers.{ended}
 use Rattle.h5w_core.proofs.ReaderLemmas.{may_end}
 use Rattle.h5w_several_core.specs.Places.{seat_ended}

@@ -13,19 +13,19 @@ use Rattle.h5w_image.specs.Memory.{MemView}
 use Rattle.h5w_image.specs.View.{Same}
 use Rattle.h5w_steady.specs.Steady.{steady}
 use Rattle.h5w_space.specs.declared.Full.{Full}
-use Rattle.h5w_session.specs.Refusals.{IsSpace}
-use Rattle.h5w_session.specs.declared.refusal.FlushError.{FlushError}
-use Rattle.h5w_session.specs.declared.refusal.FlushError.TheVariants as errors
-use Rattle.h5w_session_laws.proofs.PieceLemmas.{some_is}
-use Rattle.h5w_several_session.specs.Refusals.{HasRoomForAll, IsFullAmong, NoPlaceAll, flush_refusal_of}
-use Rattle.h5w_several_session.proofs.PartLemmas.{pending_same}
-use Rattle.h5w_several_session_laws.specs.Sessions.{FlushesAll, SameButHeld, Sessions, all_pending, counts_of}
-use Rattle.h5w_several_session_laws.specs.Standing.{StandsAll, and_then}
+use Rattle.h5w_writer.specs.Refusals.{IsSpace}
+use Rattle.h5w_writer.specs.declared.refusal.FlushError.{FlushError}
+use Rattle.h5w_writer.specs.declared.refusal.FlushError.TheVariants as errors
+use Rattle.h5w_writer_laws.proofs.PieceLemmas.{some_is}
+use Rattle.h5w_several_writer.specs.Refusals.{HasRoomForAll, IsFullAmong, NoPlaceAll, flush_refusal_of}
+use Rattle.h5w_several_writer.proofs.PartLemmas.{pending_same}
+use Rattle.h5w_several_writer_laws.specs.Sessions.{FlushesAll, SameButHeld, Sessions, all_pending, counts_of}
+use Rattle.h5w_several_writer_laws.specs.Standing.{StandsAll, and_then}
 use Rattle.h5w_several_scripts.specs.Scripts.{FileState, asks, flushing_each, says}
-use Rattle.h5w_several_worlds.specs.Worlds.{HaveOneFileLog}
-use Rattle.h5w_several_worlds.proofs.FlushLemmas.{flush_limit, flush_steps}
-use Rattle.h5w_several_worlds.proofs.FullLemmas.{full_step}
-use Rattle.h5w_several_worlds.proofs.RefusalLemmas.{all_refused_steps, held_left}
+use Rattle.h5w_several_world_laws.specs.Worlds.{HaveOneFileLog}
+use Rattle.h5w_several_world_laws.proofs.FlushLemmas.{flush_limit, flush_steps}
+use Rattle.h5w_several_world_laws.proofs.FullLemmas.{full_step}
+use Rattle.h5w_several_world_laws.proofs.RefusalLemmas.{all_refused_steps, held_left}
 use Rattle.h5w_core.specs.Worlds.{full_reply}
 use Rattle.h5w_several_core.specs.Places.{place_at}
 use Rattle.h5w_several_core.specs.Worlds.{FileSteps, HoldsAll, HoldsMoreIn, SeveralView, StandsForFile, logged_in, pollings_of}

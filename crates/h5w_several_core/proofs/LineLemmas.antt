@@ -11,23 +11,23 @@ use Rattle.h5w_model.specs.Lawful.{Line, ReaderState, looks, opens, reader_in, r
 use Rattle.h5w_model.specs.declared.piece.Write.{Write}
 use Rattle.h5w_model.specs.declared.reply.Reply.{Reply}
 use Rattle.h5w_model.specs.declared.reply.Reply.TheVariants as replies
-use Rattle.h5w_polling.specs.Laws.{after_look, opening, reading, refreshing, reply_to}
-use Rattle.h5w_polling.specs.Polling.{MayPoll, Polling, Wants}
-use Rattle.h5w_polling.specs.Scripts.{looked_now}
-use Rattle.h5w_polling.proofs.LookLemmas.{look_laws}
+use Rattle.h5w_script_laws.specs.Laws.{after_look, opening, reading, refreshing, reply_to}
+use Rattle.h5w_script_laws.specs.Polling.{MayPoll, Polling, Wants}
+use Rattle.h5w_script_laws.specs.Scripts.{looked_now}
+use Rattle.h5w_script_laws.proofs.LookLemmas.{look_laws}
 use Rattle.h5w_reader.specs.Readers.{reader_rules}
-use Rattle.h5w_session.specs.Sessions.{Session}
+use Rattle.h5w_writer.specs.Sessions.{Session}
 use Rattle.h5w_several_laws.proofs.SeenLemmas.{seen_laws}
-use Rattle.h5w_several_session_laws.specs.Sessions.{Sessions}
-use Rattle.h5w_several_session_laws.proofs.GiveLemmas.{standing_all}
+use Rattle.h5w_several_writer_laws.specs.Sessions.{Sessions}
+use Rattle.h5w_several_writer_laws.proofs.GiveLemmas.{standing_all}
 use Rattle.h5w_several_scripts.specs.Scripts.{FileState, asks, says}
 use Rattle.h5w_several_scripts.specs.Polled.{Places, and_place, readers_of}
 use Rattle.h5w_several_scripts.proofs.PolledLemmas.{placed_here, set_there}
-use Rattle.h5w_several_worlds.specs.Worlds.{HaveOneFileLog, polling_in}
-use Rattle.h5w_several_worlds.specs.ReaderSteps.{ReaderSteps}
-use Rattle.h5w_several_worlds.specs.Steps.{StepsTo}
-use Rattle.h5w_several_worlds.proofs.ReaderLemmas.{all_reader_steps}
-use Rattle.h5w_several_worlds.proofs.StepLemmas.{begun_there, part_there, states_length}
+use Rattle.h5w_several_world_laws.specs.Worlds.{HaveOneFileLog, polling_in}
+use Rattle.h5w_several_world_laws.specs.ReaderSteps.{ReaderSteps}
+use Rattle.h5w_several_world_laws.specs.Steps.{StepsTo}
+use Rattle.h5w_several_world_laws.proofs.ReaderLemmas.{all_reader_steps}
+use Rattle.h5w_several_world_laws.proofs.StepLemmas.{begun_there, part_there, states_length}
 use Rattle.h5w_core.specs.Readers.{CallReplies, LookGives, LookReplies, LooksTo, ReadBegins, ReadGives, ReadLooks, ReadsNothing, ReadsPast, ReadsTo, RefreshGives, RefreshesTo, looked}
 use Rattle.h5w_several_core.specs.Places.{SeatOpens, seat_of}
 use Rattle.h5w_several_core.proofs.MachineLemmas.{StepsOn}

@@ -8,15 +8,15 @@ use Rattle.h5w_model.proofs.ImageLemmas.{image-push}
 use Rattle.h5w_image.specs.Memory.{MemView}
 use Rattle.h5w_image.specs.View.{Same, Wrote}
 use Rattle.h5w_steady.specs.Steady.{steady}
-use Rattle.h5w_polling.specs.Polling.{Polling}
-use Rattle.h5w_session_laws.proofs.PieceLemmas.{some_is}
-use Rattle.h5w_several_session.specs.Refusals.{HasRoomForAll}
-use Rattle.h5w_several_session_laws.specs.Sessions.{Sessions, all_pending}
-use Rattle.h5w_several_session_laws.specs.Standing.{StandsAll, and_then}
+use Rattle.h5w_script_laws.specs.Polling.{Polling}
+use Rattle.h5w_writer_laws.proofs.PieceLemmas.{some_is}
+use Rattle.h5w_several_writer.specs.Refusals.{HasRoomForAll}
+use Rattle.h5w_several_writer_laws.specs.Sessions.{Sessions, all_pending}
+use Rattle.h5w_several_writer_laws.specs.Standing.{StandsAll, and_then}
 use Rattle.h5w_several_scripts.specs.Scripts.{AllowedAll, FileLine, FileReply, FileState, next_all}
 use Rattle.h5w_several_scripts.specs.Polled.{Places}
-use Rattle.h5w_several_worlds.specs.Worlds.{HaveOneFileLog}
-use Rattle.h5w_several_worlds.proofs.StepLemmas.{states_length}
+use Rattle.h5w_several_world_laws.specs.Worlds.{HaveOneFileLog}
+use Rattle.h5w_several_world_laws.proofs.StepLemmas.{states_length}
 use Rattle.h5w_several_core.specs.Places.{place_at}
 use Rattle.h5w_several_core.specs.Worlds.{AreAllMade, FileSteps, HaveFileLog, HoldsAll, IsUsedBy, SeveralView, StandsForFile, line_of, logged_in, pollings_of, set_in}
 use Rattle.h5w_several_core.specs.declared.events.FileEvent.{FileEvent}

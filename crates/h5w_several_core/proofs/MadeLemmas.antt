@@ -7,16 +7,16 @@ use Rattle.h5w_model.specs.declared.root.Super.{Super}
 use Rattle.h5w_space.specs.Space.{Space}
 use Rattle.h5w_index.specs.Blocks.{has_no_block}
 use Rattle.h5w_index.proofs.PlacingLemmas.{placing_laws}
-use Rattle.h5w_session.specs.Flushes.{SameBut}
-use Rattle.h5w_session.specs.Sessions.{IsRoomy, IsWhole, Session, rows_of, stopped_of, with_values}
-use Rattle.h5w_session.specs.Starts.{HasFlushed}
-use Rattle.h5w_session.specs.Told.{told_of}
-use Rattle.h5w_session.proofs.FlushLemmas as flushes
-use Rattle.h5w_session.proofs.HeaderAlone.{same_block}
-use Rattle.h5w_session.proofs.LoadLemmas.{planned_roomy}
-use Rattle.h5w_several_session.specs.Flows.{KeepsPart}
-use Rattle.h5w_several_session.specs.Refusals.{IsDeepAmong}
-use Rattle.h5w_several_session_laws.specs.Sessions.{AreFlushed, AreSameBut, bare}
+use Rattle.h5w_writer.specs.Flushes.{SameBut}
+use Rattle.h5w_writer.specs.Sessions.{IsRoomy, IsWhole, Session, rows_of, stopped_of, with_values}
+use Rattle.h5w_writer.specs.Starts.{HasFlushed}
+use Rattle.h5w_writer.specs.Told.{told_of}
+use Rattle.h5w_writer.proofs.FlushLemmas as flushes
+use Rattle.h5w_writer.proofs.HeaderAlone.{same_block}
+use Rattle.h5w_writer.proofs.LoadLemmas.{planned_roomy}
+use Rattle.h5w_several_writer.specs.Flows.{KeepsPart}
+use Rattle.h5w_several_writer.specs.Refusals.{IsDeepAmong}
+use Rattle.h5w_several_writer_laws.specs.Sessions.{AreFlushed, AreSameBut, bare}
 use Rattle.h5w_several_core.specs.Worlds.{AreAllMade}
 
 -- of one dataset

@@ -12,12 +12,12 @@ use Rattle.h5w_image.specs.View.{Same}
 use Rattle.h5w_image.proofs.ViewLemmas.{same_itself}
 use Rattle.h5w_reader.specs.Readers.{reader_rules}
 use Rattle.h5w_reader.specs.declared.reader.ReaderCore.{ReaderCore}
-use Rattle.h5w_session.specs.Sessions.{Session}
-use Rattle.h5w_session_laws.proofs.PieceLemmas.{some_is}
-use Rattle.h5w_several_session_laws.specs.Sessions.{Sessions}
+use Rattle.h5w_writer.specs.Sessions.{Session}
+use Rattle.h5w_writer_laws.proofs.PieceLemmas.{some_is}
+use Rattle.h5w_several_writer_laws.specs.Sessions.{Sessions}
 use Rattle.h5w_several_scripts.specs.Scripts.{FileState, says}
 use Rattle.h5w_several_scripts.specs.Polled.{Places}
-use Rattle.h5w_several_worlds.specs.Worlds.{HaveOneFileLog}
+use Rattle.h5w_several_world_laws.specs.Worlds.{HaveOneFileLog}
 use Rattle.h5w_steady.specs.Steady.{steady}
 use Rattle.h5w_space.specs.declared.Full.{Full}
 use Rattle.h5w_core.specs.Readers.{IsCalling, LookGives, LookReplies, MayRead, ReadGives, ReadLooks, RefreshGives, ended, placed}

@@ -6,14 +6,14 @@ use Rattle.h5w_model.specs.Relations.{AllPaired}
 use Rattle.h5w_model.specs.declared.root.Super.{Super}
 use Rattle.h5w_image.specs.Memory.{MemView}
 use Rattle.h5w_space.specs.Space.{Space}
-use Rattle.h5w_polling.specs.Polling.{Polling}
-use Rattle.h5w_session.specs.Sessions.{AreRows, Session, rows_of, stopped_of, with_values}
-use Rattle.h5w_session.specs.Told.{told_of}
-use Rattle.h5w_session_laws.proofs.PieceLemmas.{some_is}
-use Rattle.h5w_several_session.specs.Flows.{KeepsPart}
-use Rattle.h5w_several_session_laws.specs.Sessions.{AreFlushed, AreSameBut, Sessions, bare}
-use Rattle.h5w_several_worlds.specs.Worlds.{polling_in, rules_in}
-use Rattle.h5w_several_worlds.proofs.FlushLemmas.{flush_polling}
+use Rattle.h5w_script_laws.specs.Polling.{Polling}
+use Rattle.h5w_writer.specs.Sessions.{AreRows, Session, rows_of, stopped_of, with_values}
+use Rattle.h5w_writer.specs.Told.{told_of}
+use Rattle.h5w_writer_laws.proofs.PieceLemmas.{some_is}
+use Rattle.h5w_several_writer.specs.Flows.{KeepsPart}
+use Rattle.h5w_several_writer_laws.specs.Sessions.{AreFlushed, AreSameBut, Sessions, bare}
+use Rattle.h5w_several_world_laws.specs.Worlds.{polling_in, rules_in}
+use Rattle.h5w_several_world_laws.proofs.FlushLemmas.{flush_polling}
 use Rattle.h5w_several_core.specs.Worlds.{AreRowsIn, SeveralView, rules_of}
 use Rattle.h5w_several_core.specs.declared.places.Place.{Place}
 use Rattle.h5w_several_core.proofs.MachineLemmas.{world_of}

@@ -3,7 +3,7 @@ use Rattle.std.proofs.Common.{◌≡◌, ℕ, ◌+◌, ◌-◌, ◌<◌, ◌≤�
 use Rattle.std.specs.Prelude.{IfSome}
 use Rattle.h5w_model.specs.Lawful.{Rules}
 use Rattle.h5w_several_scripts.specs.Scripts.{AllowedAll, FileLine, FileReply as ScriptReply, FileState, LawfulAll, next_all, uses, using}
-use Rattle.h5w_several_worlds.proofs.StepLemmas.{states_length, step_laws}
+use Rattle.h5w_several_world_laws.proofs.StepLemmas.{states_length, step_laws}
 use Rattle.h5w_several_core.specs.Places.{place_at}
 use Rattle.h5w_several_core.specs.Runs.{FileRuns, RunsLawfullyAll, UsesLawfully, file_after, lines_in, lines_of, replies_in, replies_to}
 use Rattle.h5w_several_core.specs.Worlds.{FileSteps, HaveFileLog, IsUsedBy, SeveralView, line_of, reply_of, rules_of, set_in}

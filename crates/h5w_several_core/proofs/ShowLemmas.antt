@@ -8,14 +8,14 @@ use Rattle.h5w_image.specs.Memory.{MemView}
 use Rattle.h5w_image.specs.View.{ImageView, Same, Wrote}
 use Rattle.h5w_image.proofs.ViewLemmas.{same_itself}
 use Rattle.h5w_steady.specs.Steady.{steady}
-use Rattle.h5w_several_session.specs.Flows.{KeepsParts}
-use Rattle.h5w_several_session.specs.Refusals.{HasRoomForAll}
-use Rattle.h5w_several_session.proofs.EndLemmas.{stopped_none}
-use Rattle.h5w_several_session_laws.specs.Sessions.{AfterPieceOf, Sessions, all_pending, stopped_all}
-use Rattle.h5w_several_session_laws.specs.Standing.{StandsAll, and_then}
+use Rattle.h5w_several_writer.specs.Flows.{KeepsParts}
+use Rattle.h5w_several_writer.specs.Refusals.{HasRoomForAll}
+use Rattle.h5w_several_writer.proofs.EndLemmas.{stopped_none}
+use Rattle.h5w_several_writer_laws.specs.Sessions.{AfterPieceOf, Sessions, all_pending, stopped_all}
+use Rattle.h5w_several_writer_laws.specs.Standing.{StandsAll, and_then}
 use Rattle.h5w_several_scripts.specs.Scripts.{FileReply, FileState, asks, says}
-use Rattle.h5w_several_worlds.specs.Worlds.{HaveOneFileLog}
-use Rattle.h5w_several_worlds.proofs.StepLemmas.{shown_none, shown_steps, stopped_steps}
+use Rattle.h5w_several_world_laws.specs.Worlds.{HaveOneFileLog}
+use Rattle.h5w_several_world_laws.proofs.StepLemmas.{shown_none, shown_steps, stopped_steps}
 use Rattle.h5w_several_core.specs.Places.{place_at}
 use Rattle.h5w_several_core.specs.Worlds.{FileSteps, HoldsAll, SeveralView, StandsForFile, pollings_of, shown_log}
 use Rattle.h5w_several_core.specs.declared.events.FileEvent.TheVariants as events

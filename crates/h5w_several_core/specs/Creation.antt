@@ -9,9 +9,9 @@ use Rattle.h5w_options.specs.declared.options.Options.{Options}
 use Rattle.h5w_form.specs.NewFiles.{new_file}
 use Rattle.h5w_several_creation_laws.specs.SeveralFiles.{AreCreatable, created_writes}
 use Rattle.h5w_several_creating.specs.Created.{IsShownAll, shown_file}
-use Rattle.h5w_several_session.specs.Refusals.{HasRoomForAll}
-use Rattle.h5w_several_session_laws.specs.Sessions.{Sessions}
-use Rattle.h5w_several_session_laws.specs.Standing.{StandsAll}
+use Rattle.h5w_several_writer.specs.Refusals.{HasRoomForAll}
+use Rattle.h5w_several_writer_laws.specs.Sessions.{Sessions}
+use Rattle.h5w_several_writer_laws.specs.Standing.{StandsAll}
 
 -- by what these options create a file with a dataset under each of these names
 abbrev pub new_files : List (List ℕ) → Options → List CreatedFile

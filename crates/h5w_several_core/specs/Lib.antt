@@ -1,7 +1,7 @@
 pub use Rattle.h5w_image.specs.View
 pub use Rattle.h5w_several_scripts.specs.Scripts
-pub use Rattle.h5w_several_session_laws.specs.Sessions
-pub use Rattle.h5w_several_session_laws.specs.Standing
+pub use Rattle.h5w_several_writer_laws.specs.Sessions
+pub use Rattle.h5w_several_writer_laws.specs.Standing
 pub mod Places
 pub mod Worlds
 pub mod Creation

@@ -11,15 +11,15 @@ use Rattle.h5w_model.specs.declared.reply.Reply.{Reply}
 use Rattle.h5w_model.specs.declared.reply.Reply.TheVariants as replies
 use Rattle.h5w_image.specs.Memory.{MemView}
 use Rattle.h5w_steady.specs.Steady.{steady}
-use Rattle.h5w_polling.specs.Polling.{Polling}
-use Rattle.h5w_session.specs.Early.{dirty_of}
-use Rattle.h5w_session.specs.Sessions.{IsRoomy, IsWhole, Session, with_values}
-use Rattle.h5w_several_session.specs.Refusals.{HasRoomForAll, append_refusal_in, flush_refusal_of}
-use Rattle.h5w_several_session_laws.specs.Sessions.{SameButHeld, Sessions, all_pending}
-use Rattle.h5w_several_session_laws.specs.Standing.{StandsAll, and_then}
+use Rattle.h5w_script_laws.specs.Polling.{Polling}
+use Rattle.h5w_writer.specs.Early.{dirty_of}
+use Rattle.h5w_writer.specs.Sessions.{IsRoomy, IsWhole, Session, with_values}
+use Rattle.h5w_several_writer.specs.Refusals.{HasRoomForAll, append_refusal_in, flush_refusal_of}
+use Rattle.h5w_several_writer_laws.specs.Sessions.{SameButHeld, Sessions, all_pending}
+use Rattle.h5w_several_writer_laws.specs.Standing.{StandsAll, and_then}
 use Rattle.h5w_several_scripts.specs.Scripts.{AllowedAll, FileLine, FileState, asks, flushing_each, next_all, says}
 use Rattle.h5w_several_scripts.specs.Scripts as scripts
-use Rattle.h5w_several_worlds.specs.Worlds.{HaveOneFileLog, polling_in}
+use Rattle.h5w_several_world_laws.specs.Worlds.{HaveOneFileLog, polling_in}
 use Rattle.h5w_core.specs.Readers.{IsCalling, MayRead}
 use Rattle.h5w_core.specs.Worlds.{AreRowsBy}
 use Rattle.h5w_several_core.specs.Places.{place_at, reader_in, seat_ended}

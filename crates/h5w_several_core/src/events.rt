@@ -1,6 +1,6 @@
 //! What is asked of the machine, and what it answers.
 use h5w_model::{Reply, Values};
-use h5w_several_session::Parts;
+use h5w_several_writer::Parts;
 
 /// What is asked of a machine of one writer, one image and readers 1 to 16. Datasets are counted from 0.
 #[derive(Drop)]

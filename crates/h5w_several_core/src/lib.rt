@@ -10,6 +10,6 @@ mod world;
 pub use events::{FileEvent, FileReply};
 pub use h5w_core::{Journal, Options, OutOfMemory, Reply};
 pub use h5w_names::Names;
-pub use h5w_several_session::Parts;
+pub use h5w_several_writer::Parts;
 pub use laws::{runs_lawfully, uses_lawfully};
 pub use world::SeveralWorld;

@@ -8,13 +8,13 @@ ghost use Rattle.h5w_options.specs.Options.{AreAttempts, AreOptions};
 ghost use Rattle.h5w_image.specs.View.{Wrote};
 ghost use Rattle.h5w_steady.specs.Steady.{steady};
 ghost use Rattle.h5w_space.specs.declared.Full.{Full};
-ghost use Rattle.h5w_session.specs.Sessions.{AllEndBy, Session, rows_of as session_rows};
+ghost use Rattle.h5w_writer.specs.Sessions.{AllEndBy, Session, rows_of as session_rows};
 ghost use Rattle.h5w_several_creation.specs.Forms.{AreNames};
 ghost use Rattle.h5w_several_creation_laws.specs.SeveralFiles.{AllNamed, created_writes};
-ghost use Rattle.h5w_several_session.specs.Flows.{KeepsParts};
-ghost use Rattle.h5w_several_session.specs.Refusals.{HasRoomForAll, IsFullAmong};
-ghost use Rattle.h5w_several_session_laws.specs.Sessions.{AfterPieceOf, all_pending};
-ghost use Rattle.h5w_several_session_laws.specs.Standing.{StandsAll, and_then};
+ghost use Rattle.h5w_several_writer.specs.Flows.{KeepsParts};
+ghost use Rattle.h5w_several_writer.specs.Refusals.{HasRoomForAll, IsFullAmong};
+ghost use Rattle.h5w_several_writer_laws.specs.Sessions.{AfterPieceOf, all_pending};
+ghost use Rattle.h5w_several_writer_laws.specs.Standing.{StandsAll, and_then};
 ghost use Rattle.h5w_several_scripts.specs.Scripts.{FileState, AllowedAll, first_in, next_all};
 ghost use Rattle.h5w_core.specs.Readers.{IsCalling, MayRead};
 ghost use Rattle.h5w_core.specs.Worlds.{full_reply, rules_for};
@@ -30,9 +30,9 @@ use h5w_image::Journal;
 use h5w_model::{OutOfMemory, Reply, Write};
 use h5w_names::Names;
 use h5w_options::Options;
-use h5w_session::Full;
+use h5w_writer::Full;
 use h5w_several_creating as creating;
-use h5w_several_session::{AppendError, FlushError, SeveralWriter};
+use h5w_several_writer::{AppendError, FlushError, SeveralWriter};
 use h5w_steady::SteadyImage;
 use std::alloc::Global;
 use std::marker::Model;
@@ -51,7 +51,7 @@ pub struct SeveralWorld {
 
 impl Model for SeveralWorld {
     ghost use Rattle.std.specs.Coded.{codes};
-    ghost use Rattle.h5w_session.specs.Codes.{tree_code};
+    ghost use Rattle.h5w_writer.specs.Codes.{tree_code};
     ghost use Rattle.h5w_reader.specs.contracts.reader.ReaderCore as core;
     ghost use Rattle.h5w_several_core.specs.Worlds.{HoldsAll, SeveralView};
 

@@ -7,11 +7,11 @@ use Rattle.h5w_index.specs.Views.{IndexView}
 use Rattle.h5w_creation_laws.specs.CreatedFiles.{CreatedFile}
 use Rattle.h5w_several_creation_laws.specs.SeveralFiles.{AreCreatable, created_writes, end_from, end_of, first_place, super_of}
 use Rattle.h5w_several_creation_laws.proofs.PlaceLemmas.{end_above, end_small}
-use Rattle.h5w_session.specs.Creations.{places_to}
-use Rattle.h5w_session.specs.Sessions.{Session}
-use Rattle.h5w_several_session.specs.Opened.{AreOpened, sessions_at_rest}
-use Rattle.h5w_several_session_laws.specs.Sessions.{Sessions}
-use Rattle.h5w_several_session_laws.specs.Standing.{StandsAll}
+use Rattle.h5w_writer.specs.Creations.{places_to}
+use Rattle.h5w_writer.specs.Sessions.{Session}
+use Rattle.h5w_several_writer.specs.Opened.{AreOpened, sessions_at_rest}
+use Rattle.h5w_several_writer_laws.specs.Sessions.{Sessions}
+use Rattle.h5w_several_writer_laws.specs.Standing.{StandsAll}
 use Rattle.h5w_several_creating.specs.Created.{IsCreatedAll, IsShownAll, created_all, created_file, created_parts, leading, led, shown_file}
 use Rattle.h5w_several_creating.specs.Parts.{AddsParts, IsShared}
 use Rattle.h5w_several_creating.specs.declared.parts.Shared.{Shared}

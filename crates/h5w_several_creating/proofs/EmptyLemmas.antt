@@ -2,15 +2,15 @@
 use Rattle.std.proofs.Common.{◌≡◌, ℕ, List, [], ◌∷◌, length, refl, ◌∙◌, ap}
 use Rattle.h5w_model.specs.Images.{image}
 use Rattle.h5w_model.specs.Several.{FileLog}
-use Rattle.h5w_steps.specs.Moments.{Represents, reading_of}
-use Rattle.h5w_steps.proofs.FoundLemmas.{moment_reads, moment_shows}
+use Rattle.h5w_step_laws.specs.Moments.{Represents, reading_of}
+use Rattle.h5w_step_laws.proofs.FoundLemmas.{moment_reads, moment_shows}
 use Rattle.h5w_creation_laws.specs.CreatedFiles as one
 use Rattle.h5w_creation_laws.specs.CreatedFiles.{CreatedFile}
 use Rattle.h5w_several_creation_laws.specs.SeveralFiles.{created_writes, end_behind, first_place, moment_at, root_ranges, super_of}
 use Rattle.h5w_several_creation_laws.specs.SeveralLaws.{EachStands}
 use Rattle.h5w_several_creation_laws.proofs.OneLemmas.{one_dataset}
 use Rattle.h5w_several_creation_laws.proofs.StandLaws.{several_stand}
-use Rattle.h5w_session.proofs.PastLemmas.{one_each}
+use Rattle.h5w_writer.proofs.PastLemmas.{one_each}
 use Rattle.h5w_several_creating.specs.Created.{begun_of}
 use Rattle.h5w_several_creating.specs.Laws.{CreatesEmpty, CreatesOne, EachEmpty, IsEmpty}
 

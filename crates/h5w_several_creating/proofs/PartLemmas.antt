@@ -23,12 +23,12 @@ use Rattle.h5w_chunks.specs.Grids.{fill_cell}
 use Rattle.h5w_header_laws.specs.Files.{chunk_0}
 use Rattle.h5w_header_laws.specs.Spelled.{spelled_header}
 use Rattle.h5w_header_laws.proofs.SpelledLemmas.{spelled_stands}
-use Rattle.h5w_steps.specs.Logs.{Goes}
-use Rattle.h5w_steps.specs.Moments.{Moment, Represents, all_used}
-use Rattle.h5w_steps.specs.Steps.{OffAll}
-use Rattle.h5w_steps.proofs.FoundLemmas.{moment_found}
-use Rattle.h5w_steps.proofs.GoesLemmas.{begin_goes, reads_now}
-use Rattle.h5w_steps.proofs.MomentLemmas.{super_parts}
+use Rattle.h5w_step_laws.specs.Logs.{Goes}
+use Rattle.h5w_step_laws.specs.Moments.{Moment, Represents, all_used}
+use Rattle.h5w_step_laws.specs.Steps.{OffAll}
+use Rattle.h5w_step_laws.proofs.FoundLemmas.{moment_found}
+use Rattle.h5w_step_laws.proofs.GoesLemmas.{begin_goes, reads_now}
+use Rattle.h5w_step_laws.proofs.MomentLemmas.{super_parts}
 use Rattle.h5w_array_laws.proofs.CreatedLemmas.{created_stands}
 use Rattle.h5w_flush_laws.specs.Flushes.{IsBegun}
 use Rattle.h5w_flush_laws.specs.Knowledge.{KnownHeld}
@@ -48,14 +48,14 @@ use Rattle.h5w_several_creation_laws.specs.SeveralFiles.{block_behind, described
 use Rattle.h5w_several_creation_laws.proofs.SetLemmas.{long_at, spellable_at}
 use Rattle.h5w_several_laws.specs.Turns.{Entry}
 use Rattle.h5w_several_laws.proofs.BesideLemmas.{settled_apart}
-use Rattle.h5w_session.specs.Creations.{places_to}
-use Rattle.h5w_session.specs.Openings.{IsOver, opened_log}
-use Rattle.h5w_session.specs.PartLaws.{RunsAs, rooted}
-use Rattle.h5w_session.specs.Past.{IsCounted}
-use Rattle.h5w_session.specs.Sessions.{Session}
-use Rattle.h5w_session.proofs.OpenedLemmas.{over_as}
-use Rattle.h5w_session.proofs.PartLemmas.{part_laws}
-use Rattle.h5w_session.proofs.StateLemmas.{up_some}
+use Rattle.h5w_writer.specs.Creations.{places_to}
+use Rattle.h5w_writer.specs.Openings.{IsOver, opened_log}
+use Rattle.h5w_writer.specs.PartLaws.{RunsAs, rooted}
+use Rattle.h5w_writer.specs.Past.{IsCounted}
+use Rattle.h5w_writer.specs.Sessions.{Session}
+use Rattle.h5w_writer.proofs.OpenedLemmas.{over_as}
+use Rattle.h5w_writer.proofs.PartLemmas.{part_laws}
+use Rattle.h5w_writer.proofs.StateLemmas.{up_some}
 use Rattle.h5w_several_open.specs.Datasets.{IsEntry}
 use Rattle.h5w_several_open.proofs.BeginLemmas.{known_of, live_own, off_own, own_is, runs_as}
 use Rattle.h5w_several_creating.specs.Created.{created_part}

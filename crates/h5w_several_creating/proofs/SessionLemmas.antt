@@ -18,15 +18,15 @@ use Rattle.h5w_several_creation_laws.specs.SeveralFiles.{block_behind, described
 use Rattle.h5w_several_creation_laws.proofs.PlaceLemmas.{end_above}
 use Rattle.h5w_several_creation_laws.proofs.SetLemmas.{long_at, spellable_at}
 use Rattle.h5w_several_creation.specs.Forms.{any_by, each_by}
-use Rattle.h5w_session.specs.Creations.{places_to}
-use Rattle.h5w_session.specs.PartLaws.{super_piece}
-use Rattle.h5w_session.specs.Sessions.{IsSession, IsWritable, Session}
-use Rattle.h5w_session.proofs.EarlyLemmas.{none_touched}
-use Rattle.h5w_session.proofs.HeaderAlone.{head_ends}
-use Rattle.h5w_session.proofs.SessionStarts.{empty_index}
-use Rattle.h5w_session.proofs.StateLemmas.{up_some}
-use Rattle.h5w_several_session.specs.Opened.{AreOpened, rested, sessions_at_rest}
-use Rattle.h5w_several_session_laws.specs.Sessions.{Sessions}
+use Rattle.h5w_writer.specs.Creations.{places_to}
+use Rattle.h5w_writer.specs.PartLaws.{super_piece}
+use Rattle.h5w_writer.specs.Sessions.{IsSession, IsWritable, Session}
+use Rattle.h5w_writer.proofs.EarlyLemmas.{none_touched}
+use Rattle.h5w_writer.proofs.HeaderAlone.{head_ends}
+use Rattle.h5w_writer.proofs.SessionStarts.{empty_index}
+use Rattle.h5w_writer.proofs.StateLemmas.{up_some}
+use Rattle.h5w_several_writer.specs.Opened.{AreOpened, rested, sessions_at_rest}
+use Rattle.h5w_several_writer_laws.specs.Sessions.{Sessions}
 use Rattle.h5w_several_creating.specs.Created.{AreIndexes, created_part, created_parts}
 use Rattle.h5w_several_creating.specs.Parts.{AddsParts, IsMold, IsPartOver, IsShared, over_part, over_parts}
 use Rattle.h5w_several_creating.specs.declared.parts.Mold.{Mold}

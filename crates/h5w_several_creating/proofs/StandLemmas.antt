@@ -21,21 +21,21 @@ use Rattle.h5w_several_creation_laws.proofs.PlaceLemmas.{end_above, end_small}
 use Rattle.h5w_several_creation_laws.proofs.StandLaws.{several_sizes, several_stand}
 use Rattle.h5w_several_laws.specs.Together.{IsAllValid, names_of as entry_names}
 use Rattle.h5w_several_laws.specs.Turns.{AreKnown, Entry}
-use Rattle.h5w_session.specs.Creations.{places_to}
-use Rattle.h5w_session.specs.Loads.{end_in, first_end_of}
-use Rattle.h5w_session.specs.Openings.{opened_log}
-use Rattle.h5w_session.specs.Sessions.{AllEndBy, Session, Settles}
-use Rattle.h5w_session.proofs.CreatingLemmas.{writes_end}
-use Rattle.h5w_session.proofs.PastLemmas.{ends_later}
-use Rattle.h5w_several_session_laws.specs.Began.{BeginsOver, began_end}
-use Rattle.h5w_several_session_laws.specs.Seen.{IsSeen}
-use Rattle.h5w_several_session_laws.specs.Sessions.{AfterPieceOf, AreFlushing, Sessions, all_pending}
-use Rattle.h5w_several_session_laws.specs.Courses.{AreThrough, Stand, stands_of, then_shows}
-use Rattle.h5w_several_session_laws.specs.Standing.{AreStandingParts, IsStandingPart, StandsAll, StandsOn, and_then, most_in}
-use Rattle.h5w_several_session_laws.specs.Valid.{AreValidFrom}
-use Rattle.h5w_several_session_laws.proofs.CallLemmas.{calls_stand}
-use Rattle.h5w_several_session_laws.proofs.FlushAllLemmas.{stands_all}
-use Rattle.h5w_several_session_laws.proofs.SightLemmas.{seen_begun}
+use Rattle.h5w_writer.specs.Creations.{places_to}
+use Rattle.h5w_writer.specs.Loads.{end_in, first_end_of}
+use Rattle.h5w_writer.specs.Openings.{opened_log}
+use Rattle.h5w_writer.specs.Sessions.{AllEndBy, Session, Settles}
+use Rattle.h5w_writer.proofs.CreatingLemmas.{writes_end}
+use Rattle.h5w_writer.proofs.PastLemmas.{ends_later}
+use Rattle.h5w_several_writer_laws.specs.Began.{BeginsOver, began_end}
+use Rattle.h5w_several_writer_laws.specs.Seen.{IsSeen}
+use Rattle.h5w_several_writer_laws.specs.Sessions.{AfterPieceOf, AreFlushing, Sessions, all_pending}
+use Rattle.h5w_several_writer_laws.specs.Courses.{AreThrough, Stand, stands_of, then_shows}
+use Rattle.h5w_several_writer_laws.specs.Standing.{AreStandingParts, IsStandingPart, StandsAll, StandsOn, and_then, most_in}
+use Rattle.h5w_several_writer_laws.specs.Valid.{AreValidFrom}
+use Rattle.h5w_several_writer_laws.proofs.CallLemmas.{calls_stand}
+use Rattle.h5w_several_writer_laws.proofs.FlushAllLemmas.{stands_all}
+use Rattle.h5w_several_writer_laws.proofs.SightLemmas.{seen_begun}
 use Rattle.h5w_several_open.specs.Datasets.{IsEntry}
 use Rattle.h5w_several_open.proofs.DatasetLemmas.{all_apart}
 use Rattle.h5w_several_creating.specs.Created.{AreIndexes, begun_of, created_all, created_file, created_part, created_parts, leading, showing_all}

@@ -9,9 +9,9 @@ use Rattle.h5w_index.specs.Views.{IndexView, IsSound}
 use Rattle.h5w_creation_laws.specs.CreatedFiles.{CreatedFile}
 use Rattle.h5w_creation.specs.Made.{IsNewIndex}
 use Rattle.h5w_several_creation_laws.specs.SeveralFiles.{block_behind, created_writes, described_at, end_behind, end_of, first_place, index_behind, super_of}
-use Rattle.h5w_session.specs.Creations.{places_to}
-use Rattle.h5w_session.specs.Sessions.{Session}
-use Rattle.h5w_several_session_laws.specs.Sessions.{Sessions}
+use Rattle.h5w_writer.specs.Creations.{places_to}
+use Rattle.h5w_writer.specs.Sessions.{Session}
+use Rattle.h5w_several_writer_laws.specs.Sessions.{Sessions}
 
 -- a dataset in the log of its file: its columns, and no rows
 abbrev pub begun_of : CreatedFile → Begun

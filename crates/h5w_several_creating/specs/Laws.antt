@@ -8,9 +8,9 @@ use Rattle.h5w_model.specs.declared.piece.Write.{Write}
 use Rattle.h5w_index.specs.Views.{IndexView}
 use Rattle.h5w_creation_laws.specs.CreatedFiles.{CreatedFile, IsCreatable, created_log}
 use Rattle.h5w_several_creation_laws.specs.SeveralFiles.{AreCreatable, created_writes, described_at, end_behind, first_place, names_of, new_summary}
-use Rattle.h5w_several_session_laws.specs.Bounds.{IsGrown}
-use Rattle.h5w_several_session_laws.specs.Sessions.{Sessions, all_pending}
-use Rattle.h5w_several_session_laws.specs.Standing.{StandsAll}
+use Rattle.h5w_several_writer_laws.specs.Bounds.{IsGrown}
+use Rattle.h5w_several_writer_laws.specs.Sessions.{Sessions, all_pending}
+use Rattle.h5w_several_writer_laws.specs.Standing.{StandsAll}
 use Rattle.h5w_several_creating.specs.Created.{AreIndexes, IsCreatedAll, created_all, created_file, file_after, led}
 
 -- The pieces of the creation are pending; the session stands for the log to which nothing happened yet, and its file

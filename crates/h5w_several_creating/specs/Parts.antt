@@ -7,9 +7,9 @@ use Rattle.h5w_creation.specs.Made.{IsNewIndex}
 use Rattle.h5w_creation_laws.specs.CreatedFiles.{CreatedFile, described_of, header_len}
 use Rattle.h5w_several_creation_laws.specs.SeveralFiles.{block_behind, end_behind, index_behind}
 use Rattle.h5w_several_creation.specs.Forms.{any_by}
-use Rattle.h5w_session.specs.Creations.{places_to}
-use Rattle.h5w_session.specs.PartLaws.{super_piece}
-use Rattle.h5w_session.specs.Sessions.{Session}
+use Rattle.h5w_writer.specs.Creations.{places_to}
+use Rattle.h5w_writer.specs.PartLaws.{super_piece}
+use Rattle.h5w_writer.specs.Sessions.{Session}
 use Rattle.h5w_several_creating.specs.Created.{AreIndexes, created_part}
 use Rattle.h5w_several_creating.specs.declared.parts.Mold.{Mold}
 use Rattle.h5w_several_creating.specs.declared.parts.Shared.{Shared}

@@ -2,8 +2,8 @@
 ghost use Rattle.std.specs.Prelude.{◌≡◌, ◌*◌, ◌^◌, ◌≤◌, [], IfOk, length};
 ghost use Rattle.h5w_several_creation_laws.specs.SeveralFiles.{AllNamed, created_writes};
 ghost use Rattle.h5w_several_creation.specs.Forms.{AreForms, AreNames, each_by};
-ghost use Rattle.h5w_several_session_laws.specs.Sessions.{all_pending};
-ghost use Rattle.h5w_several_session_laws.specs.Standing.{StandsAll};
+ghost use Rattle.h5w_several_writer_laws.specs.Sessions.{all_pending};
+ghost use Rattle.h5w_several_writer_laws.specs.Standing.{StandsAll};
 ghost use Rattle.h5w_several_creating.specs.Created.{IsCreatedAll, IsShownAll, created_file, led, shown_file};
 
 use crate::parts::{Shared, add_parts};
@@ -11,7 +11,7 @@ use h5w_creation::Form;
 use h5w_model::{OutOfMemory, Write};
 use h5w_names::Names;
 use h5w_several_creation::{create_files, first_place};
-use h5w_several_session::SeveralWriter;
+use h5w_several_writer::SeveralWriter;
 use std::alloc::Global;
 
 /// A new file: the pieces that make it, in the order in which they become visible, and the session over it that goes on

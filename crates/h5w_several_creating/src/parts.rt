@@ -9,7 +9,7 @@ ghost use Rattle.h5w_several_creating.specs.Parts.{AddsParts, IsMold, IsPartOver
 use h5w_chunks::{Grid, Layout};
 use h5w_creation::{ARRAY_LEN, Form, create_file, dataset_header, index_len, new_index};
 use h5w_model::{Bytes, OutOfMemory, Super};
-use h5w_session::{FileParts, WriterCore};
+use h5w_writer::{FileParts, WriterCore};
 use std::alloc::Global;
 
 /// What the sessions over all datasets of a new file have alike.

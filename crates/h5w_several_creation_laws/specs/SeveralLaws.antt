@@ -3,7 +3,7 @@ use Rattle.std.specs.Prelude.{◌≡◌, ℕ, ◌+◌, ◌*◌, ◌≤◌, List,
 use Rattle.h5w_model.specs.Images.{image, Holds, AllSized}
 use Rattle.h5w_model.specs.Findings.{Used, AllValid}
 use Rattle.h5w_model.specs.declared.root.Super.{Super}
-use Rattle.h5w_steps.specs.Moments.{Represents}
+use Rattle.h5w_step_laws.specs.Moments.{Represents}
 use Rattle.h5w_creation_laws.specs.CreatedFiles as one
 use Rattle.h5w_creation_laws.specs.CreatedFiles.{CreatedFile, IsCreatable, header_len, block_write}
 use Rattle.h5w_creation_laws.specs.CreationLaws.{WritesEndBy}

@@ -2,13 +2,13 @@
 use Rattle.std.proofs.Common.{◌≡◌, ◌⊎◌, ℕ, List, Result, Ok, Err, Some, ap, inl, inr, arith}
 use Rattle.std.specs.Prelude.{IfErr, OnErr}
 use Rattle.h5w_model.specs.Causes.{Rose}
-use Rattle.h5w_session.specs.Refusals.{IsSpace}
-use Rattle.h5w_session.specs.declared.refusal.AppendError.{AppendError}
-use Rattle.h5w_session.specs.declared.refusal.AppendError.TheVariants as appending
-use Rattle.h5w_session.specs.declared.refusal.FlushError.{FlushError}
-use Rattle.h5w_session.specs.declared.refusal.FlushError.TheVariants as flushing
-use Rattle.h5w_several_session.specs.Refusals.{flush_refusal_of}
-use Rattle.h5w_several_session_laws.specs.Sessions.{Sessions}
+use Rattle.h5w_writer.specs.Refusals.{IsSpace}
+use Rattle.h5w_writer.specs.declared.refusal.AppendError.{AppendError}
+use Rattle.h5w_writer.specs.declared.refusal.AppendError.TheVariants as appending
+use Rattle.h5w_writer.specs.declared.refusal.FlushError.{FlushError}
+use Rattle.h5w_writer.specs.declared.refusal.FlushError.TheVariants as flushing
+use Rattle.h5w_several_writer.specs.Refusals.{flush_refusal_of}
+use Rattle.h5w_several_writer_laws.specs.Sessions.{Sessions}
 use Rattle.h5w_handles.specs.declared.several.SeveralState.{SeveralState}
 use Rattle.h5w_writer_handles.proofs.FlushLemmas.{causes_here}
 

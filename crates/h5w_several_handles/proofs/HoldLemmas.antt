@@ -21,8 +21,8 @@ use Rattle.h5w_several_creation_laws.specs.SeveralFiles.{created_writes}
 use Rattle.h5w_several_creating.specs.Created.{IsCreatedAll, created_file, led, shown_file}
 use Rattle.h5w_several_open.specs.Begins.{ReadsIt}
 use Rattle.h5w_several_open.specs.Stands.{opened_file}
-use Rattle.h5w_several_session_laws.specs.Sessions.{Sessions, all_pending}
-use Rattle.h5w_several_session_laws.specs.Standing.{StandsAll}
+use Rattle.h5w_several_writer_laws.specs.Sessions.{Sessions, all_pending}
+use Rattle.h5w_several_writer_laws.specs.Standing.{StandsAll}
 use Rattle.h5w_handles.specs.Codes.{misuse, no_memory, told}
 use Rattle.h5w_handles.specs.declared.code.H5wCode.TheVariants as codes
 use Rattle.h5w_handles.specs.declared.code.H5wTold.{H5wTold}

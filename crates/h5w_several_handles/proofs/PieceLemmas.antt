@@ -3,9 +3,9 @@ use Rattle.std.proofs.Common.{◌≡◌, ◌≢◌, ◌∙◌, ℕ, ◌<◌, ◌
 use Rattle.std.specs.Prelude.{slice_get}
 use Rattle.h5w_model.specs.Several.{FileLog, shows_all}
 use Rattle.h5w_model.specs.declared.piece.Write.{Write}
-use Rattle.h5w_several_session.specs.Flows.{KeepsParts}
-use Rattle.h5w_several_session_laws.specs.Sessions.{AfterPieceOf, all_pending}
-use Rattle.h5w_several_session_laws.specs.Standing.{StandsAll, and_then}
+use Rattle.h5w_several_writer.specs.Flows.{KeepsParts}
+use Rattle.h5w_several_writer_laws.specs.Sessions.{AfterPieceOf, all_pending}
+use Rattle.h5w_several_writer_laws.specs.Standing.{StandsAll, and_then}
 use Rattle.h5w_handles.specs.Codes.{misuse, told}
 use Rattle.h5w_handles.specs.declared.code.H5wCode.TheVariants as codes
 use Rattle.h5w_handles.specs.declared.code.H5wTold.{H5wTold}

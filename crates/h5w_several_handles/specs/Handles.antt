@@ -1,7 +1,7 @@
 -- What a call of a writer of several datasets leaves in a handle.
 use Rattle.std.specs.Prelude.{◌≡◌, ◌⊎◌, ℕ, Bool, true, false, List, [], length, is_some, Option, Some, None, Result, Ok, Err}
 use Rattle.h5w_opening.specs.declared.error.OpenError.{OpenError}
-use Rattle.h5w_several_session_laws.specs.Sessions.{Sessions, all_pending}
+use Rattle.h5w_several_writer_laws.specs.Sessions.{Sessions, all_pending}
 use Rattle.h5w_handles.specs.Codes.{busy, misuse, no_memory, told}
 use Rattle.h5w_handles.specs.Handles.{has_several}
 use Rattle.h5w_handles.specs.declared.code.H5wCode.TheVariants as codes

@@ -4,19 +4,19 @@ use Rattle.h5w_model.specs.Several.{FileLog, appends_to, plans_each, shows_all}
 use Rattle.h5w_model.specs.Superblock.{super_at, super_bytes}
 use Rattle.h5w_model.specs.declared.piece.Write.{Write}
 use Rattle.h5w_space.specs.declared.Full.{Full}
-use Rattle.h5w_session.specs.PartLaws.{super_piece}
-use Rattle.h5w_session.specs.Refusals.{IsSpace}
-use Rattle.h5w_session.specs.Sessions.{Session, rows_of}
-use Rattle.h5w_session.specs.declared.refusal.AppendError.{AppendError}
-use Rattle.h5w_session.specs.declared.refusal.AppendError.TheVariants as appending
-use Rattle.h5w_session.specs.declared.refusal.CloseError.{CloseError}
-use Rattle.h5w_session.specs.declared.refusal.CloseError.TheVariants as closing
-use Rattle.h5w_session.specs.declared.refusal.FlushError.{FlushError}
-use Rattle.h5w_session.specs.declared.refusal.FlushError.TheVariants as flushing
-use Rattle.h5w_several_session.specs.Flows.{KeepsParts, PlansAll}
-use Rattle.h5w_several_session.specs.Refusals.{IsDeepAmong, IsFullAmong, NoPlaceAll, append_refusal_in, close_refusal_of, flush_refusal_of}
-use Rattle.h5w_several_session_laws.specs.Sessions.{AfterPieceOf, AppendsTo, FlushesAll, SameButHeld, all_pending, closed_all, closed_super, counts_of, keeping, stopped_all}
-use Rattle.h5w_several_session_laws.specs.Standing.{StandsAll, and_then}
+use Rattle.h5w_writer.specs.PartLaws.{super_piece}
+use Rattle.h5w_writer.specs.Refusals.{IsSpace}
+use Rattle.h5w_writer.specs.Sessions.{Session, rows_of}
+use Rattle.h5w_writer.specs.declared.refusal.AppendError.{AppendError}
+use Rattle.h5w_writer.specs.declared.refusal.AppendError.TheVariants as appending
+use Rattle.h5w_writer.specs.declared.refusal.CloseError.{CloseError}
+use Rattle.h5w_writer.specs.declared.refusal.CloseError.TheVariants as closing
+use Rattle.h5w_writer.specs.declared.refusal.FlushError.{FlushError}
+use Rattle.h5w_writer.specs.declared.refusal.FlushError.TheVariants as flushing
+use Rattle.h5w_several_writer.specs.Flows.{KeepsParts, PlansAll}
+use Rattle.h5w_several_writer.specs.Refusals.{IsDeepAmong, IsFullAmong, NoPlaceAll, append_refusal_in, close_refusal_of, flush_refusal_of}
+use Rattle.h5w_several_writer_laws.specs.Sessions.{AfterPieceOf, AppendsTo, FlushesAll, SameButHeld, all_pending, closed_all, closed_super, counts_of, keeping, stopped_all}
+use Rattle.h5w_several_writer_laws.specs.Standing.{StandsAll, and_then}
 use Rattle.h5w_text.specs.Errors.{error_text}
 use Rattle.h5w_text.specs.declared.error.ErrorLine.TheVariants as lines
 use Rattle.h5w_writer_lines.specs.Lines.{append_line, close_line, flush_line}

@@ -13,8 +13,8 @@ use Rattle.h5w_several_open.specs.Begins.{ReadsIt}
 use Rattle.h5w_several_open.specs.Sessions.{HasBegunAll, IsSessionAnswer}
 use Rattle.h5w_several_open.specs.Stands.{opened_file}
 use Rattle.h5w_several_open.specs.Taken.{HasTakenAll, IsTakenAnswer}
-use Rattle.h5w_several_session_laws.specs.Sessions.{Sessions, all_pending}
-use Rattle.h5w_several_session_laws.specs.Standing.{StandsAll}
+use Rattle.h5w_several_writer_laws.specs.Sessions.{Sessions, all_pending}
+use Rattle.h5w_several_writer_laws.specs.Standing.{StandsAll}
 use Rattle.h5w_handles.specs.declared.several.SeveralState.{SeveralState}
 use Rattle.h5w_writer_handles.specs.declared.options.H5wOptions.{H5wOptions}
 use Rattle.h5w_several_handles.specs.Names.{budget_of, files_by, limit_of}

@@ -1,6 +1,6 @@
 //! The calls of a writer of several datasets, on a handle.
 ghost use Rattle.std.specs.Prelude.{◌≡◌, None, length, map, pos};
-ghost use Rattle.h5w_session.specs.Sessions.{Session, rows_of};
+ghost use Rattle.h5w_writer.specs.Sessions.{Session, rows_of};
 ghost use Rattle.h5w_handles.specs.Codes.{misuse};
 ghost use Rattle.h5w_several_handles.specs.Handles.{OnSeveral};
 ghost use Rattle.h5w_several_handles.specs.SetCalls.{AppendedSet, ClosedSet, CountsOf, FailedSet, FlushedSet, IsNextOf, KeepsSet, WrittenSet};

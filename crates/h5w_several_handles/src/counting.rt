@@ -1,6 +1,6 @@
 //! What a session of several datasets counts of one of them.
 ghost use Rattle.std.specs.Prelude.{◌≡◌, ◌≤◌, Some, length, slice_get};
-ghost use Rattle.h5w_session.specs.Sessions.{Session, rows_of};
+ghost use Rattle.h5w_writer.specs.Sessions.{Session, rows_of};
 
 use h5w_handles::SeveralState;
 

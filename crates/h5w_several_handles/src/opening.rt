@@ -16,7 +16,7 @@ use h5w_handles::{H5wCode, H5wTold, Handle, Held, SeveralState};
 use h5w_model::OutOfMemory;
 use h5w_names::Names;
 use h5w_opening::OpenError;
-use h5w_several_session::SeveralWriter;
+use h5w_several_writer::SeveralWriter;
 use h5w_writer_handles::{Given, H5wOptions, refuse_file};
 use std::alloc::Global;
 

@@ -1,12 +1,12 @@
 //! The calls of a session of several datasets, with codes in place of its answers.
 ghost use Rattle.std.specs.Prelude.{◌≡◌, ◌<◌, ◌≤◌, ◌%◌, IsFalse, IsTrue, Some, length, map, pos, slice_get, take};
-ghost use Rattle.h5w_session.specs.Sessions.{AreRows, Session};
+ghost use Rattle.h5w_writer.specs.Sessions.{AreRows, Session};
 ghost use Rattle.h5w_handles.specs.Texts.{laid};
 ghost use Rattle.h5w_several_handles.specs.SetCalls.{AppendedRowsTo, AppendedSet, AppendedTo, AppendsRows, ClosedSet, EndsSet, FailedSet, FlushedSet, KeepsSet, PlansSet};
 
 use h5w_handles::{H5wCode, H5wTold, SeveralState};
 use h5w_model::OutOfMemory;
-use h5w_several_session::{AppendError, CloseError, FlushError, Parts};
+use h5w_several_writer::{AppendError, CloseError, FlushError, Parts};
 use h5w_writer_handles::{
     LINE, Room, append_told, close_told, flush_told, refuse, refuse_memory, refuse_rows,
     signed_values, unsigned_values,

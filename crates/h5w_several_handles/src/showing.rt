@@ -2,7 +2,7 @@
 ghost use Rattle.std.specs.Prelude.{◌≡◌, ◌<◌, List, ◌∷◌, length, slice_get};
 ghost use Rattle.std.specs.Option.{option_copied};
 ghost use Rattle.h5w_model.specs.declared.piece.Write.{Write};
-ghost use Rattle.h5w_several_session_laws.specs.Sessions.{all_pending};
+ghost use Rattle.h5w_several_writer_laws.specs.Sessions.{all_pending};
 ghost use Rattle.h5w_writer_handles.specs.WriterCalls.{next_out, next_place};
 ghost use Rattle.h5w_several_handles.specs.SetCalls.{WrittenSet};
 ghost use Rattle.h5w_several_handles.specs.Sets.{pending_of};

@@ -5,15 +5,15 @@ use Rattle.h5w_model.specs.Images.{apply, Misses}
 use Rattle.h5w_model.specs.Findings.{Used, the_superblock}
 use Rattle.h5w_model.specs.declared.root.Super.{Super}
 use Rattle.h5w_model.specs.declared.piece.Write.{Write}
-use Rattle.h5w_visits.specs.Ranges.{Among, AreApart, Disjoint, MissesBlocks}
-use Rattle.h5w_visits.proofs.RangeLemmas.{among_left, among_right, among_split}
-use Rattle.h5w_steps.specs.Moments.{Moment, all_used, Represents}
-use Rattle.h5w_steps.specs.Steps.{Commits, Step, Switches, Unseen, unseen, ends, switches, commits}
-use Rattle.h5w_steps.specs.Plans.{Flush}
-use Rattle.h5w_steps.proofs.MomentLemmas.{cell_chunk, chunk_missed, header_of, in_root, parts_of, table_of_file}
-use Rattle.h5w_steps.proofs.StepRepresents.{MissesEach, chunk_lies, ends_missed, fixed_missed, header_off, step_represents}
-use Rattle.h5w_steps.proofs.FoundLemmas.{disjoint_drop}
-use Rattle.h5w_steps.proofs.SessionLaws.{other_laws}
+use Rattle.h5w_visit_laws.specs.Ranges.{Among, AreApart, Disjoint, MissesBlocks}
+use Rattle.h5w_visit_laws.proofs.RangeLemmas.{among_left, among_right, among_split}
+use Rattle.h5w_step_laws.specs.Moments.{Moment, all_used, Represents}
+use Rattle.h5w_step_laws.specs.Steps.{Commits, Step, Switches, Unseen, unseen, ends, switches, commits}
+use Rattle.h5w_step_laws.specs.Plans.{Flush}
+use Rattle.h5w_step_laws.proofs.MomentLemmas.{cell_chunk, chunk_missed, header_of, in_root, parts_of, table_of_file}
+use Rattle.h5w_step_laws.proofs.StepRepresents.{MissesEach, chunk_lies, ends_missed, fixed_missed, header_off, step_represents}
+use Rattle.h5w_step_laws.proofs.FoundLemmas.{disjoint_drop}
+use Rattle.h5w_step_laws.proofs.SessionLaws.{other_laws}
 use Rattle.h5w_several_laws.specs.Beside.{ApartBeside, BesideFlush, BesideStays, DisjointJoined, FlushUntold, IsBeside, SettledApart, own_of, whole_of, with_root}
 
 pub apart_beside : ApartBeside

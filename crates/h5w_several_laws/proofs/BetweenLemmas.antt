@@ -11,17 +11,17 @@ use Rattle.h5w_model.specs.declared.piece.Write.{Write}
 use Rattle.h5w_model.specs.declared.root.Super.{Super}
 use Rattle.h5w_model.proofs.ImageLemmas.{image-append}
 use Rattle.h5w_laws.proofs.AnswerLemmas.{same_ok}
-use Rattle.h5w_visits.specs.Ranges.{Among, AllAmong}
-use Rattle.h5w_visits.proofs.HeaderLaws.{root_places}
-use Rattle.h5w_visits.proofs.RangeLemmas.{among_left, among_right, among_split}
+use Rattle.h5w_visit_laws.specs.Ranges.{Among, AllAmong}
+use Rattle.h5w_visit_laws.proofs.HeaderLaws.{root_places}
+use Rattle.h5w_visit_laws.proofs.RangeLemmas.{among_left, among_right, among_split}
 use Rattle.h5w_space.specs.Space.{Space}
 use Rattle.h5w_header_laws.specs.Files.{commit_at}
-use Rattle.h5w_steps.specs.Moments.{Moment, Represents}
-use Rattle.h5w_steps.specs.Steps.{OffAll, Step, commits, ends, switches, unseen}
-use Rattle.h5w_steps.specs.Plans.{Flush, Plan, UnseenRange}
-use Rattle.h5w_steps.proofs.PartLemmas.{apart_sym}
-use Rattle.h5w_steps.proofs.PlanLaws.{flush_leads, plan_leads}
-use Rattle.h5w_steps.proofs.StepRepresents.{step_represents}
+use Rattle.h5w_step_laws.specs.Moments.{Moment, Represents}
+use Rattle.h5w_step_laws.specs.Steps.{OffAll, Step, commits, ends, switches, unseen}
+use Rattle.h5w_step_laws.specs.Plans.{Flush, Plan, UnseenRange}
+use Rattle.h5w_step_laws.proofs.PartLemmas.{apart_sym}
+use Rattle.h5w_step_laws.proofs.PlanLaws.{flush_leads, plan_leads}
+use Rattle.h5w_step_laws.proofs.StepRepresents.{step_represents}
 use Rattle.h5w_flush_laws.specs.Knowledge.{HeldMissed, Knows}
 use Rattle.h5w_flush_laws.specs.Parts.{AllUnseen, AreEnded, EachSays, IsFlush, Parts, block_ranges, block_writes, copied, early_of, ended, flushed_to, fresh_of, pieces_of}
 use Rattle.h5w_flush_laws.proofs.EarlyLemmas.{blocks_off_held, blocks_unseen, fresh_unseen, unseen_stage}

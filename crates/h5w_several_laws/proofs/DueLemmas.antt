@@ -6,12 +6,12 @@ use Rattle.h5w_model.specs.Images.{apply, image}
 use Rattle.h5w_model.specs.Logs.{Log, plans, shows, appended, appended_in, flushed, flushed_in, and_now}
 use Rattle.h5w_model.specs.Findings.{Used}
 use Rattle.h5w_model.specs.declared.piece.Write.{Write}
-use Rattle.h5w_steps.specs.Moments.{Moment}
-use Rattle.h5w_steps.specs.Logs.{Goes, image_now}
-use Rattle.h5w_steps.specs.Plans.{Plan, Flush}
-use Rattle.h5w_steps.proofs.GoesLemmas.{event_goes, image_pushed, piece_goes, same_images}
-use Rattle.h5w_steps.proofs.PlanLaws.{plan_from, plan_values}
-use Rattle.h5w_steps.proofs.SessionLaws.{both_same, lt-leb-false, some_piece}
+use Rattle.h5w_step_laws.specs.Moments.{Moment}
+use Rattle.h5w_step_laws.specs.Logs.{Goes, image_now}
+use Rattle.h5w_step_laws.specs.Plans.{Plan, Flush}
+use Rattle.h5w_step_laws.proofs.GoesLemmas.{event_goes, image_pushed, piece_goes, same_images}
+use Rattle.h5w_step_laws.proofs.PlanLaws.{plan_from, plan_values}
+use Rattle.h5w_step_laws.proofs.SessionLaws.{both_same, lt-leb-false, some_piece}
 use Rattle.h5w_several_laws.specs.Dues.{PieceDue, PlanDue, RunsTo, Waits}
 
 pub heads : (a b : Write) (xs ys : List Write) → a ∷ xs ≡ b ∷ ys → a ≡ b

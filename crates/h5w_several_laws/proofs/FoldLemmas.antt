@@ -5,12 +5,12 @@ use Rattle.h5w_model.specs.Findings.{Used}
 use Rattle.h5w_model.specs.declared.root.Super.{Super}
 use Rattle.h5w_model.specs.declared.piece.Write.{Write}
 use Rattle.h5w_model.proofs.ImageLemmas.{image-append}
-use Rattle.h5w_visits.specs.Ranges.{Among}
+use Rattle.h5w_visit_laws.specs.Ranges.{Among}
 use Rattle.h5w_space.specs.Space.{Space}
-use Rattle.h5w_steps.specs.Moments.{Moment}
-use Rattle.h5w_steps.specs.Plans.{Plan, Flush}
-use Rattle.h5w_steps.proofs.PartLemmas.{apart_sym}
-use Rattle.h5w_steps.proofs.PlanLaws.{plans_join}
+use Rattle.h5w_step_laws.specs.Moments.{Moment}
+use Rattle.h5w_step_laws.specs.Plans.{Plan, Flush}
+use Rattle.h5w_step_laws.proofs.PartLemmas.{apart_sym}
+use Rattle.h5w_step_laws.proofs.PlanLaws.{plans_join}
 use Rattle.h5w_flush_laws.specs.Parts.{Parts, flushed_to, pieces_of}
 use Rattle.h5w_several_laws.specs.Turns.{AllFollow, AllPart, AllPlan, AreKnown, AreOff, ArePlans, AreTurns, Entry, HasPart, HasPlan, IsApart, IsOff, IsOne, IsTurn, TurnsFollow, all_then, flushed, part_of, super_then, then_as, turn_pieces, turns_lead}
 use Rattle.h5w_several_laws.proofs.TurnLemmas.{turn_known}

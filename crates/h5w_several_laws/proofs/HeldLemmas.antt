@@ -6,13 +6,13 @@ use Rattle.h5w_model.specs.Images.{apply}
 use Rattle.h5w_model.specs.Datasets.{Described}
 use Rattle.h5w_model.specs.Findings.{Used, the_superblock}
 use Rattle.h5w_model.specs.declared.piece.Write.{Write}
-use Rattle.h5w_visits.specs.Ranges.{Among, AllAmong, AreApart}
-use Rattle.h5w_visits.proofs.RangeLemmas.{among_left, among_right, among_split}
-use Rattle.h5w_steps.specs.Moments.{Moment, moved_of, Represents}
-use Rattle.h5w_steps.specs.Steps.{OffAll, Step, unseen, ends, switches, commits}
-use Rattle.h5w_steps.proofs.GoesLemmas.{holds_behind, moved_front, off_joined, step_misses}
-use Rattle.h5w_steps.proofs.StepRepresents.{step_represents}
-use Rattle.h5w_steps.proofs.SessionLaws.{some_piece}
+use Rattle.h5w_visit_laws.specs.Ranges.{Among, AllAmong, AreApart}
+use Rattle.h5w_visit_laws.proofs.RangeLemmas.{among_left, among_right, among_split}
+use Rattle.h5w_step_laws.specs.Moments.{Moment, moved_of, Represents}
+use Rattle.h5w_step_laws.specs.Steps.{OffAll, Step, unseen, ends, switches, commits}
+use Rattle.h5w_step_laws.proofs.GoesLemmas.{holds_behind, moved_front, off_joined, step_misses}
+use Rattle.h5w_step_laws.proofs.StepRepresents.{step_represents}
+use Rattle.h5w_step_laws.proofs.SessionLaws.{some_piece}
 use Rattle.h5w_several_laws.specs.Beside.{BesideHeld, IsBeside}
 use Rattle.h5w_several_laws.proofs.BesideLemmas.{beside_stays, kept_super, step_held}
 

@@ -4,16 +4,16 @@ use Rattle.h5w_model.specs.Images.{apply, image}
 use Rattle.h5w_model.specs.Findings.{Used, the_superblock}
 use Rattle.h5w_model.specs.declared.cell.Key.{Key}
 use Rattle.h5w_model.specs.declared.piece.Write.{Write}
-use Rattle.h5w_visits.specs.Ranges.{Among, AreApart}
-use Rattle.h5w_visits.proofs.RangeLemmas.{among_left, among_right, among_split}
+use Rattle.h5w_visit_laws.specs.Ranges.{Among, AreApart}
+use Rattle.h5w_visit_laws.proofs.RangeLemmas.{among_left, among_right, among_split}
 use Rattle.h5w_space.specs.Space.{Space, IsLive}
 use Rattle.h5w_header_laws.specs.Files.{LayoutInChunk0}
-use Rattle.h5w_steps.specs.Moments.{Moment, all_used, Represents}
-use Rattle.h5w_steps.specs.Steps.{OffAll}
-use Rattle.h5w_steps.specs.Plans.{Flush}
-use Rattle.h5w_steps.proofs.MomentLemmas.{in_root}
-use Rattle.h5w_steps.proofs.StepRepresents.{step_represents}
-use Rattle.h5w_steps.proofs.PlanLaws.{plan_leads}
+use Rattle.h5w_step_laws.specs.Moments.{Moment, all_used, Represents}
+use Rattle.h5w_step_laws.specs.Steps.{OffAll}
+use Rattle.h5w_step_laws.specs.Plans.{Flush}
+use Rattle.h5w_step_laws.proofs.MomentLemmas.{in_root}
+use Rattle.h5w_step_laws.proofs.StepRepresents.{step_represents}
+use Rattle.h5w_step_laws.proofs.PlanLaws.{plan_leads}
 use Rattle.h5w_flush_laws.specs.Spaces.{AllLive, extent_of}
 use Rattle.h5w_flush_laws.specs.Knowledge.{HeldMissed, IsMap, Knows}
 use Rattle.h5w_flush_laws.specs.Parts.{Parts, IsFlush, flushed_to, fresh_of, pieces_of}
@@ -24,7 +24,7 @@ use Rattle.h5w_several_laws.specs.Beside.{IsBeside, own_of, whole_of}
 use Rattle.h5w_several_laws.proofs.BesideLemmas.{apart_beside, beside_stays, step_beside, step_misses_own}
 use Rattle.h5w_several_laws.proofs.HeldLemmas.{beside_held}
 use Rattle.h5w_flush_laws.proofs.SpaceLemmas.{have_no_byte, meet_nowhere}
-use Rattle.h5w_steps.proofs.PartLemmas.{apart_sym, disjoint_some}
+use Rattle.h5w_step_laws.proofs.PartLemmas.{apart_sym, disjoint_some}
 use Rattle.h5w_several_laws.specs.Others.{OthersKnow, and_then}
 
 -- ---- All pieces

@@ -6,12 +6,12 @@ use Rattle.h5w_model.specs.Images.{image}
 use Rattle.h5w_model.specs.Logs.{Log, plans, and_now, flushed_in}
 use Rattle.h5w_model.specs.Findings.{Used}
 use Rattle.h5w_model.specs.declared.piece.Write.{Write}
-use Rattle.h5w_steps.specs.Moments.{Moment}
-use Rattle.h5w_steps.specs.Logs.{Goes, image_now}
-use Rattle.h5w_steps.specs.Sessions.{Runs}
-use Rattle.h5w_steps.specs.Plans.{Plan, Flush}
-use Rattle.h5w_steps.proofs.PlanLaws.{plan_from}
-use Rattle.h5w_steps.proofs.SessionLaws.{some_piece}
+use Rattle.h5w_step_laws.specs.Moments.{Moment}
+use Rattle.h5w_step_laws.specs.Logs.{Goes, image_now}
+use Rattle.h5w_step_laws.specs.Sessions.{Runs}
+use Rattle.h5w_step_laws.specs.Plans.{Plan, Flush}
+use Rattle.h5w_step_laws.proofs.PlanLaws.{plan_from}
+use Rattle.h5w_step_laws.proofs.SessionLaws.{some_piece}
 use Rattle.h5w_flush_laws.specs.Parts.{Parts, early_of, flushed_to, pieces_of}
 use Rattle.h5w_several_laws.specs.Dues.{RunsTo, Waits}
 use Rattle.h5w_several_laws.proofs.DueLemmas.{plan_due}

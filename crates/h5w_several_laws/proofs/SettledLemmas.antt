@@ -9,10 +9,10 @@ use Rattle.h5w_model.specs.Findings.{Valid}
 use Rattle.h5w_model.specs.Prefixed.{image_at, EachReads, MissesBehind, ReadsNow, Stays, Still, StillAt}
 use Rattle.h5w_model.specs.declared.piece.Write.{Write}
 use Rattle.h5w_laws.proofs.LogLemmas.{events_at_now}
-use Rattle.h5w_steps.specs.Moments.{Represents}
-use Rattle.h5w_steps.specs.Logs.{image_now}
-use Rattle.h5w_steps.proofs.GoesLemmas.{moved_past}
-use Rattle.h5w_steps.proofs.SessionLaws.{lt-leb-false}
+use Rattle.h5w_step_laws.specs.Moments.{Represents}
+use Rattle.h5w_step_laws.specs.Logs.{image_now}
+use Rattle.h5w_step_laws.proofs.GoesLemmas.{moved_past}
+use Rattle.h5w_step_laws.proofs.SessionLaws.{lt-leb-false}
 use Rattle.h5w_model.specs.Several.{settled, settled_log}
 use Rattle.h5w_several_laws.specs.Settled.{SettledGoes, SettledLaws}
 

@@ -8,12 +8,12 @@ use Rattle.h5w_model.specs.Findings.{Used}
 use Rattle.h5w_model.specs.declared.piece.Write.{Write}
 use Rattle.h5w_space.specs.Space.{Apart, Space}
 use Rattle.h5w_space.specs.declared.Extent.{Extent}
-use Rattle.h5w_steps.specs.Moments.{Moment}
-use Rattle.h5w_steps.specs.Logs.{Goes, image_now}
-use Rattle.h5w_steps.specs.Sessions.{Runs}
-use Rattle.h5w_steps.proofs.GoesLemmas.{moved_front}
-use Rattle.h5w_steps.proofs.MomentLemmas.{inside}
-use Rattle.h5w_steps.proofs.SessionLaws.{goes_runs}
+use Rattle.h5w_step_laws.specs.Moments.{Moment}
+use Rattle.h5w_step_laws.specs.Logs.{Goes, image_now}
+use Rattle.h5w_step_laws.specs.Sessions.{Runs}
+use Rattle.h5w_step_laws.proofs.GoesLemmas.{moved_front}
+use Rattle.h5w_step_laws.proofs.MomentLemmas.{inside}
+use Rattle.h5w_step_laws.proofs.SessionLaws.{goes_runs}
 use Rattle.h5w_flush_laws.specs.Spaces.{AllLive, extent_of}
 use Rattle.h5w_flush_laws.specs.Knowledge.{KnownHeld}
 use Rattle.h5w_flush_laws.specs.Flushes.{IsBegun, Rests}

@@ -15,17 +15,17 @@ use Rattle.h5w_laws.proofs.AnswerLemmas.{same_ok}
 use Rattle.h5w_laws.proofs.FitLemmas.{free_fit}
 use Rattle.h5w_laws.proofs.ResultLemmas.{and_then_from}
 use Rattle.h5w_laws.proofs.SeveralLemmas.{finds_all}
-use Rattle.h5w_visits.specs.Ranges.{AllEndBy, Among, AreApart, Disjoint, block_at}
-use Rattle.h5w_visits.proofs.HeaderLaws.{header_tells, root_parts}
-use Rattle.h5w_visits.proofs.HeaderVisits.{ranges_from, used_of}
-use Rattle.h5w_visits.proofs.OverlapLemmas.{overlap_laws}
-use Rattle.h5w_visits.proofs.RangeLemmas.{among_left, among_split}
-use Rattle.h5w_steps.specs.Moments.{Moment, Represents}
-use Rattle.h5w_steps.specs.Steps.{OffAll, Step}
-use Rattle.h5w_steps.specs.Plans.{Flush}
-use Rattle.h5w_steps.proofs.FoundLemmas.{disjoint_drop}
-use Rattle.h5w_steps.proofs.PartLemmas.{apart_sym, disjoint_apart, disjoint_left, disjoint_right}
-use Rattle.h5w_steps.proofs.StepRepresents.{step_represents}
+use Rattle.h5w_visit_laws.specs.Ranges.{AllEndBy, Among, AreApart, Disjoint, block_at}
+use Rattle.h5w_visit_laws.proofs.HeaderLaws.{header_tells, root_parts}
+use Rattle.h5w_visit_laws.proofs.HeaderVisits.{ranges_from, used_of}
+use Rattle.h5w_visit_laws.proofs.OverlapLemmas.{overlap_laws}
+use Rattle.h5w_visit_laws.proofs.RangeLemmas.{among_left, among_split}
+use Rattle.h5w_step_laws.specs.Moments.{Moment, Represents}
+use Rattle.h5w_step_laws.specs.Steps.{OffAll, Step}
+use Rattle.h5w_step_laws.specs.Plans.{Flush}
+use Rattle.h5w_step_laws.proofs.FoundLemmas.{disjoint_drop}
+use Rattle.h5w_step_laws.proofs.PartLemmas.{apart_sym, disjoint_apart, disjoint_left, disjoint_right}
+use Rattle.h5w_step_laws.proofs.StepRepresents.{step_represents}
 use Rattle.h5w_several_laws.specs.Beside.{IsBeside, own_of}
 use Rattle.h5w_several_laws.specs.Together.{AllFound, AreBeside, AreClear, AreThere, FlushStaysValid, IsAllValid, IsClear, StaysValid, names_of, onto, summary_of}
 use Rattle.h5w_several_laws.specs.Turns.{Entry, all_then, owns, then_as}

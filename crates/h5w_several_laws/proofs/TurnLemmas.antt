@@ -5,16 +5,16 @@ use Rattle.h5w_model.specs.Images.{image}
 use Rattle.h5w_model.specs.Findings.{Used, the_superblock}
 use Rattle.h5w_model.specs.declared.root.Super.{Super}
 use Rattle.h5w_model.specs.declared.piece.Write.{Write}
-use Rattle.h5w_visits.specs.Ranges.{Among, AllAmong, AllEndBy, AreApart, Disjoint}
-use Rattle.h5w_visits.proofs.RangeLemmas.{among_left, among_right, among_split, some_joined}
+use Rattle.h5w_visit_laws.specs.Ranges.{Among, AllAmong, AllEndBy, AreApart, Disjoint}
+use Rattle.h5w_visit_laws.proofs.RangeLemmas.{among_left, among_right, among_split, some_joined}
 use Rattle.h5w_space.specs.Space.{Space, IsLive}
-use Rattle.h5w_steps.specs.Moments.{Moment, all_used, moved_of, Represents}
-use Rattle.h5w_steps.specs.Steps.{OffAll}
-use Rattle.h5w_steps.specs.Plans.{Plan, Flush}
-use Rattle.h5w_steps.proofs.PartLemmas.{apart_sym, disjoint_apart, disjoint_left, disjoint_right}
-use Rattle.h5w_steps.proofs.MomentLemmas.{in_root}
-use Rattle.h5w_steps.proofs.GoesLemmas.{clear_joined, off_joined}
-use Rattle.h5w_steps.proofs.PlanLaws.{all_end, end_long, flush_leads}
+use Rattle.h5w_step_laws.specs.Moments.{Moment, all_used, moved_of, Represents}
+use Rattle.h5w_step_laws.specs.Steps.{OffAll}
+use Rattle.h5w_step_laws.specs.Plans.{Plan, Flush}
+use Rattle.h5w_step_laws.proofs.PartLemmas.{apart_sym, disjoint_apart, disjoint_left, disjoint_right}
+use Rattle.h5w_step_laws.proofs.MomentLemmas.{in_root}
+use Rattle.h5w_step_laws.proofs.GoesLemmas.{clear_joined, off_joined}
+use Rattle.h5w_step_laws.proofs.PlanLaws.{all_end, end_long, flush_leads}
 use Rattle.h5w_flush_laws.specs.Spaces.{AllLive, extent_of}
 use Rattle.h5w_flush_laws.specs.Knowledge.{HeldMissed, Holding, Knows}
 use Rattle.h5w_flush_laws.specs.Parts.{Parts, IsFlush, flushed_to}

@@ -2,10 +2,10 @@
 use Rattle.std.specs.Prelude.{◌≡◌, ℕ, ◌<◌, false, List, ◌++◌, map}
 use Rattle.h5w_model.specs.Findings.{Used}
 use Rattle.h5w_model.specs.declared.piece.Write.{Write}
-use Rattle.h5w_visits.specs.Ranges.{Among, AllEndBy, Disjoint}
-use Rattle.h5w_steps.specs.Moments.{Moment, all_used, moved_of, Represents}
-use Rattle.h5w_steps.specs.Steps.{OffAll, Step}
-use Rattle.h5w_steps.specs.Plans.{Plan, Flush}
+use Rattle.h5w_visit_laws.specs.Ranges.{Among, AllEndBy, Disjoint}
+use Rattle.h5w_step_laws.specs.Moments.{Moment, all_used, moved_of, Represents}
+use Rattle.h5w_step_laws.specs.Steps.{OffAll, Step}
+use Rattle.h5w_step_laws.specs.Plans.{Plan, Flush}
 
 -- a dataset's own ranges: its header, its index's blocks in place and what stands behind them
 abbrev pub own_of : Moment → List Used

@@ -3,8 +3,8 @@ use Rattle.std.specs.Prelude.{◌≡◌, ℕ, ◌≤◌, List, ◌++◌, ℤ}
 use Rattle.h5w_model.specs.Logs.{Log, Happening, hist, appended_in, flushed_in, flushed, at_position}
 use Rattle.h5w_model.specs.Several.{settled, settled_log}
 use Rattle.h5w_model.specs.Findings.{Used}
-use Rattle.h5w_steps.specs.Moments.{Moment}
-use Rattle.h5w_steps.specs.Logs.{Goes}
+use Rattle.h5w_step_laws.specs.Moments.{Moment}
+use Rattle.h5w_step_laws.specs.Logs.{Goes}
 
 -- The pieces are the same; what is appended is what was flushed; at each position as much is flushed as was; and no piece that comes
 -- later makes an earlier flush whole.

@@ -4,9 +4,9 @@ use Rattle.h5w_model.specs.Images.{apply}
 use Rattle.h5w_model.specs.Findings.{AllSummary, AllValid, Used, the_superblock}
 use Rattle.h5w_model.specs.declared.piece.Write.{Write}
 use Rattle.h5w_model.specs.declared.root.Super.{Super}
-use Rattle.h5w_steps.specs.Moments.{Moment, Represents}
-use Rattle.h5w_steps.specs.Steps.{OffAll}
-use Rattle.h5w_steps.specs.Plans.{Flush}
+use Rattle.h5w_step_laws.specs.Moments.{Moment, Represents}
+use Rattle.h5w_step_laws.specs.Steps.{OffAll}
+use Rattle.h5w_step_laws.specs.Plans.{Flush}
 use Rattle.h5w_several_laws.specs.Beside.{IsBeside, own_of}
 use Rattle.h5w_several_laws.specs.Turns.{Entry, owns}
 

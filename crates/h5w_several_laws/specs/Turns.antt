@@ -6,13 +6,13 @@ use Rattle.h5w_model.specs.Findings.{Used}
 use Rattle.h5w_model.specs.declared.root.Super.{Super}
 use Rattle.h5w_model.specs.declared.cell.Key.{Key}
 use Rattle.h5w_model.specs.declared.piece.Write.{Write}
-use Rattle.h5w_visits.specs.Ranges.{Among}
+use Rattle.h5w_visit_laws.specs.Ranges.{Among}
 use Rattle.h5w_space.specs.Space.{Space}
-use Rattle.h5w_steps.specs.Moments.{Moment}
-use Rattle.h5w_steps.specs.Steps.{OffAll}
-use Rattle.h5w_steps.specs.Plans.{Plan, Flush}
-use Rattle.h5w_steps.specs.Logs.{image_now}
-use Rattle.h5w_steps.specs.Sessions.{Runs}
+use Rattle.h5w_step_laws.specs.Moments.{Moment}
+use Rattle.h5w_step_laws.specs.Steps.{OffAll}
+use Rattle.h5w_step_laws.specs.Plans.{Plan, Flush}
+use Rattle.h5w_step_laws.specs.Logs.{image_now}
+use Rattle.h5w_step_laws.specs.Sessions.{Runs}
 use Rattle.h5w_flush_laws.specs.Knowledge.{HeldMissed, Knows}
 use Rattle.h5w_flush_laws.specs.Parts.{Parts, IsFlush, flushed_to, pieces_of}
 use Rattle.h5w_several_laws.specs.Beside.{own_of, whole_of, with_root}

@@ -12,11 +12,11 @@ use Rattle.h5w_model.specs.declared.root.Super.{Super}
 use Rattle.h5w_model.specs.declared.refusal.ReadError.{ReadError}
 use Rattle.h5w_laws.proofs.ResultLemmas.{refused_ok, then_ok}
 use Rattle.h5w_header_laws.specs.Files.{chunk_0}
-use Rattle.h5w_steps.proofs.FoundLemmas.{opens}
+use Rattle.h5w_step_laws.proofs.FoundLemmas.{opens}
 use Rattle.h5w_image.specs.View.{ImageView}
-use Rattle.h5w_found.specs.Ran.{seen}
-use Rattle.h5w_found.specs.Walks.{root_header_for}
-use Rattle.h5w_found.proofs.RanLemmas.{same_value, step_err, step_ok}
+use Rattle.h5w_headers.specs.Ran.{seen}
+use Rattle.h5w_headers.specs.Walks.{root_header_for}
+use Rattle.h5w_headers.proofs.RanLemmas.{same_value, step_err, step_ok}
 use Rattle.h5w_index.specs.Held.{view_of}
 use Rattle.h5w_index.specs.Views.{IndexView}
 use Rattle.h5w_index.specs.declared.index.Index.{Index as HeldIndex}
@@ -29,20 +29,20 @@ use Rattle.h5w_opening.specs.declared.finding.Opening.{Opening}
 use Rattle.h5w_opening.proofs.FoundParts.{header_found_by}
 use Rattle.h5w_opening.proofs.FrontLemmas.{fronted_by, fronts_give}
 use Rattle.h5w_opening.proofs.OpeningLemmas.{then_joined}
-use Rattle.h5w_session.specs.Openings.{opened_log}
-use Rattle.h5w_session.specs.PartLaws.{super_piece}
-use Rattle.h5w_session.specs.Sessions.{AfterPiece, Session, Settles}
-use Rattle.h5w_session.specs.Stands.{Stands}
-use Rattle.h5w_session.proofs.OpenedLemmas.{over_laws}
-use Rattle.h5w_session_open.specs.declared.index.NoIndex.{NoIndex}
-use Rattle.h5w_session_open.specs.OpenAnswers.{HasBegun, opened_session, session_over}
-use Rattle.h5w_session_open.specs.OpenParts.{IsPartOver, IsReadAt, IsUnread, bad_block, bad_range, no_header, opened_at, refused_part}
-use Rattle.h5w_session_open.specs.OpenRanges.{ranges_refused, refused_index, refused_open}
-use Rattle.h5w_session_open.specs.OpenSteps.{OpenStep, front_of, versioned}
-use Rattle.h5w_session_open.proofs.OpenStepLemmas.{step_both}
-use Rattle.h5w_session_open.proofs.OverFile.{HasParts, dataset_same}
-use Rattle.h5w_session_open.proofs.PartLemmas.{kept_at, open_part, read_bad, read_good}
-use Rattle.h5w_session_open.proofs.SessionOver.{some_columns, unrefused_parts}
+use Rattle.h5w_writer.specs.Openings.{opened_log}
+use Rattle.h5w_writer.specs.PartLaws.{super_piece}
+use Rattle.h5w_writer.specs.Sessions.{AfterPiece, Session, Settles}
+use Rattle.h5w_writer.specs.Stands.{Stands}
+use Rattle.h5w_writer.proofs.OpenedLemmas.{over_laws}
+use Rattle.h5w_writer_open.specs.declared.index.NoIndex.{NoIndex}
+use Rattle.h5w_writer_open.specs.OpenAnswers.{HasBegun, opened_session, session_over}
+use Rattle.h5w_writer_open.specs.OpenParts.{IsPartOver, IsReadAt, IsUnread, bad_block, bad_range, no_header, opened_at, refused_part}
+use Rattle.h5w_writer_open.specs.OpenRanges.{ranges_refused, refused_index, refused_open}
+use Rattle.h5w_writer_open.specs.OpenSteps.{OpenStep, front_of, versioned}
+use Rattle.h5w_writer_open.proofs.OpenStepLemmas.{step_both}
+use Rattle.h5w_writer_open.proofs.OverFile.{HasParts, dataset_same}
+use Rattle.h5w_writer_open.proofs.PartLemmas.{kept_at, open_part, read_bad, read_good}
+use Rattle.h5w_writer_open.proofs.SessionOver.{some_columns, unrefused_parts}
 use Rattle.h5w_several_open.specs.Beginnings.{HasBegunBy, IsBegunOver, IsNotBegun, is_damaged, is_refused, not_found, written_at, written_found}
 use Rattle.h5w_several_open.specs.Taken.{closed_front}
 use Rattle.h5w_several_open.specs.declared.beginning.Beginning.TheVariants.{TakenOver}

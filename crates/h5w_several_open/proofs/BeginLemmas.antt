@@ -16,17 +16,17 @@ use Rattle.h5w_model.specs.declared.cell.Key.{Key}
 use Rattle.h5w_model.specs.declared.root.Super.{Super}
 use Rattle.h5w_laws.specs.Several.{IsShare}
 use Rattle.h5w_laws.proofs.SeveralLemmas.{each_valid}
-use Rattle.h5w_visits.specs.Ranges.{Among}
-use Rattle.h5w_visits.proofs.HeaderLaws.{root_places}
-use Rattle.h5w_visits.proofs.RangeLemmas.{among_left, among_right}
+use Rattle.h5w_visit_laws.specs.Ranges.{Among}
+use Rattle.h5w_visit_laws.proofs.HeaderLaws.{root_places}
+use Rattle.h5w_visit_laws.proofs.RangeLemmas.{among_left, among_right}
 use Rattle.h5w_space.specs.Space.{Space}
-use Rattle.h5w_steps.specs.Logs.{image_now}
-use Rattle.h5w_steps.specs.Plans.{Plan}
-use Rattle.h5w_steps.specs.Moments.{Moment, Represents, all_used}
-use Rattle.h5w_steps.specs.Steps.{OffAll}
-use Rattle.h5w_steps.proofs.FoundLemmas.{opens}
-use Rattle.h5w_steps.proofs.MomentLemmas.{in_root}
-use Rattle.h5w_steps.proofs.PartLemmas.{apart_sym, disjoint_apart}
+use Rattle.h5w_step_laws.specs.Logs.{image_now}
+use Rattle.h5w_step_laws.specs.Plans.{Plan}
+use Rattle.h5w_step_laws.specs.Moments.{Moment, Represents, all_used}
+use Rattle.h5w_step_laws.specs.Steps.{OffAll}
+use Rattle.h5w_step_laws.proofs.FoundLemmas.{opens}
+use Rattle.h5w_step_laws.proofs.MomentLemmas.{in_root}
+use Rattle.h5w_step_laws.proofs.PartLemmas.{apart_sym, disjoint_apart}
 use Rattle.h5w_flush_laws.specs.Knowledge.{KnownHeld}
 use Rattle.h5w_flush_laws.specs.Spaces.{AllLive}
 use Rattle.h5w_header_laws.specs.Files.{chunk_0}
@@ -35,21 +35,21 @@ use Rattle.h5w_several_laws.specs.Beside.{own_of}
 use Rattle.h5w_several_laws.specs.Turns.{AreKnown, AreOff, Entry, IsOff, IsOne, all_then, then_as}
 use Rattle.h5w_several_laws.proofs.BesideLemmas.{settled_apart}
 use Rattle.h5w_opening.specs.Openings.{Opened, refused_dataset}
-use Rattle.h5w_session.specs.Openings.{IsOver, flagged_root, opened_log}
-use Rattle.h5w_session.specs.PartLaws.{RunsAs, rooted, super_piece}
-use Rattle.h5w_session.specs.Sessions.{Session}
-use Rattle.h5w_session.specs.Told.{moved_to, told_log, told_of}
-use Rattle.h5w_session.proofs.PartLemmas.{part_laws}
-use Rattle.h5w_session.proofs.ToldLemmas.{told_laws}
-use Rattle.h5w_session_open.specs.declared.index.NoIndex.{NoIndex}
-use Rattle.h5w_session_open.specs.declared.index.NoIndex.TheVariants.{Unnamed, Empty, WrongTotals, Unordered}
-use Rattle.h5w_session_open.specs.OpenAnswers.{IsArrayOf, IsEmptyOf, IsIndexOf, IsKeptIndexOf, IsOpenedOver, session_over, writing_flags}
-use Rattle.h5w_session_open.specs.OpenRanges.{ranges_refused, refused_index, refused_open}
-use Rattle.h5w_session_open.proofs.OpenLineLemmas.{open_few}
-use Rattle.h5w_session_open.proofs.OpenRangeLemmas.{or_none}
-use Rattle.h5w_session_open.proofs.OverFile.{HasParts, IsFirst, checked, cut_here, dataset_same, has_parts, is_bare, is_begun, is_over, swmr}
-use Rattle.h5w_session_open.proofs.SessionOver.{in_chunk, near_of, some_columns, unrefused_parts}
-use Rattle.h5w_several_session_laws.proofs.RunLemmas.{runs_of}
+use Rattle.h5w_writer.specs.Openings.{IsOver, flagged_root, opened_log}
+use Rattle.h5w_writer.specs.PartLaws.{RunsAs, rooted, super_piece}
+use Rattle.h5w_writer.specs.Sessions.{Session}
+use Rattle.h5w_writer.specs.Told.{moved_to, told_log, told_of}
+use Rattle.h5w_writer.proofs.PartLemmas.{part_laws}
+use Rattle.h5w_writer.proofs.ToldLemmas.{told_laws}
+use Rattle.h5w_writer_open.specs.declared.index.NoIndex.{NoIndex}
+use Rattle.h5w_writer_open.specs.declared.index.NoIndex.TheVariants.{Unnamed, Empty, WrongTotals, Unordered}
+use Rattle.h5w_writer_open.specs.OpenAnswers.{IsArrayOf, IsEmptyOf, IsIndexOf, IsKeptIndexOf, IsOpenedOver, session_over, writing_flags}
+use Rattle.h5w_writer_open.specs.OpenRanges.{ranges_refused, refused_index, refused_open}
+use Rattle.h5w_writer_open.proofs.OpenLineLemmas.{open_few}
+use Rattle.h5w_writer_open.proofs.OpenRangeLemmas.{or_none}
+use Rattle.h5w_writer_open.proofs.OverFile.{HasParts, IsFirst, checked, cut_here, dataset_same, has_parts, is_bare, is_begun, is_over, swmr}
+use Rattle.h5w_writer_open.proofs.SessionOver.{in_chunk, near_of, some_columns, unrefused_parts}
+use Rattle.h5w_several_writer_laws.proofs.RunLemmas.{runs_of}
 use Rattle.h5w_several_open.specs.Answers.{HasBegunWith}
 use Rattle.h5w_several_open.specs.Begins.{BeginsPart, EachBegins, OpensAll, ReadsIt, a_part, no_part}
 use Rattle.h5w_several_open.specs.Datasets.{IsEntry}

@@ -4,18 +4,18 @@ use Rattle.std.specs.Prelude.{IfOk}
 use Rattle.h5w_model.specs.Datasets.{then_also}
 use Rattle.h5w_model.specs.Relations.{AllPaired}
 use Rattle.h5w_model.specs.declared.root.Super.{Super}
-use Rattle.h5w_found.proofs.RanLemmas.{step_ok}
+use Rattle.h5w_headers.proofs.RanLemmas.{step_ok}
 use Rattle.h5w_opening.specs.Errors.{refusal_of}
 use Rattle.h5w_opening.specs.Fronts.{FrontFields}
 use Rattle.h5w_opening.specs.Openings.{Opened, dataset_found, is_open, place_found, super_by, written_super}
 use Rattle.h5w_opening.specs.declared.error.OpenError.{OpenError}
 use Rattle.h5w_opening.proofs.FoundParts.{parts}
 use Rattle.h5w_index.specs.Views.{IndexView}
-use Rattle.h5w_session.specs.Sessions.{Session, cleared}
-use Rattle.h5w_session_open.specs.OpenAnswers.{IsNotOpened, IsOpenAnswer, IsOpenedOver, damaged, refused, unfound, writing_flags}
-use Rattle.h5w_session_open.specs.OpenParts.{opened_at}
-use Rattle.h5w_session_open.proofs.OpenStepLemmas.{refusal_map}
-use Rattle.h5w_several_session_laws.specs.Sessions.{Sessions}
+use Rattle.h5w_writer.specs.Sessions.{Session, cleared}
+use Rattle.h5w_writer_open.specs.OpenAnswers.{IsNotOpened, IsOpenAnswer, IsOpenedOver, damaged, refused, unfound, writing_flags}
+use Rattle.h5w_writer_open.specs.OpenParts.{opened_at}
+use Rattle.h5w_writer_open.proofs.OpenStepLemmas.{refusal_map}
+use Rattle.h5w_several_writer_laws.specs.Sessions.{Sessions}
 use Rattle.h5w_several_open.specs.Beginnings.{HadFlags, HasDatasetBy, HaveBegunBy, IsAllAnswer, IsBeginAnswer, IsBegunAll, IsBegunOver, IsNotBegun, is_damaged, is_refused, not_found, root_by, session_by, shut_by, written_at}
 use Rattle.h5w_several_open.specs.Progress.{writing_root}
 use Rattle.h5w_several_open.specs.Sessions.{HasBegunAll, HasDatasetAt, IsOpenedAll, IsSessionAnswer}

@@ -7,15 +7,15 @@ use Rattle.h5w_model.specs.Superblock.{super_at, super_bytes}
 use Rattle.h5w_model.specs.declared.refusal.SuperError.{SuperError}
 use Rattle.h5w_model.specs.declared.root.Super.{Super}
 use Rattle.h5w_space.specs.Space.{Space}
-use Rattle.h5w_found.proofs.RanLemmas.{same_value}
+use Rattle.h5w_headers.proofs.RanLemmas.{same_value}
 use Rattle.h5w_opening.proofs.FoundParts.{parts, super_found_by}
-use Rattle.h5w_session.specs.Sessions.{Session, cleared}
-use Rattle.h5w_session_open.specs.OpenAnswers.{IsOpenedOver, writing_flags}
-use Rattle.h5w_session_open.proofs.LeftLemmas.{open_laws}
-use Rattle.h5w_session_open.proofs.SessionOver.{unrefused_parts}
-use Rattle.h5w_several_session.specs.Opened.{places_from, rested, sessions_over, settled}
-use Rattle.h5w_several_session_laws.specs.Bounds.{IsGrown}
-use Rattle.h5w_several_session_laws.specs.Sessions.{AreSessions, Sessions}
+use Rattle.h5w_writer.specs.Sessions.{Session, cleared}
+use Rattle.h5w_writer_open.specs.OpenAnswers.{IsOpenedOver, writing_flags}
+use Rattle.h5w_writer_open.proofs.LeftLemmas.{open_laws}
+use Rattle.h5w_writer_open.proofs.SessionOver.{unrefused_parts}
+use Rattle.h5w_several_writer.specs.Opened.{places_from, rested, sessions_over, settled}
+use Rattle.h5w_several_writer_laws.specs.Bounds.{IsGrown}
+use Rattle.h5w_several_writer_laws.specs.Sessions.{AreSessions, Sessions}
 use Rattle.h5w_several_open.specs.Answers.{HasBegunWith, HaveBegun, IsOpenedBy}
 use Rattle.h5w_several_open.specs.Progress.{writing_root}
 use Rattle.h5w_several_open.specs.Sessions.{BeginsWith, HasBegunAll, HasDatasetAt, IsOpenedAll}

@@ -17,9 +17,9 @@ use Rattle.h5w_image.specs.View.{ImageView, Looked}
 use Rattle.h5w_image.proofs.ViewLemmas.{looked_itself, looked_twice}
 use Rattle.h5w_looks.specs.Still.{IsStill}
 use Rattle.h5w_looks.proofs.ReadLemmas.{still_on}
-use Rattle.h5w_found.specs.Walks.{root_header_for}
-use Rattle.h5w_found.proofs.RanLemmas.{later, same_value, step_ok}
-use Rattle.h5w_found.specs.Ran.{Refuses, seen}
+use Rattle.h5w_headers.specs.Walks.{root_header_for}
+use Rattle.h5w_headers.proofs.RanLemmas.{later, same_value, step_ok}
+use Rattle.h5w_headers.specs.Ran.{Refuses, seen}
 use Rattle.h5w_index.specs.Held.{view_of}
 use Rattle.h5w_index.specs.Views.{IndexView}
 use Rattle.h5w_index.specs.declared.index.Index.{Index as HeldIndex}
@@ -35,14 +35,14 @@ use Rattle.h5w_opening.specs.declared.error.OpenError.TheVariants.{Failed, Read}
 use Rattle.h5w_opening.proofs.FoundParts.{parts, super_found_by}
 use Rattle.h5w_opening.proofs.FrontLemmas.{fronted_by, fronts_give, places_behind}
 use Rattle.h5w_opening.proofs.OpeningLemmas.{behind_place, behind_super, opened_by, opening_gives}
-use Rattle.h5w_session.specs.Sessions.{Session}
-use Rattle.h5w_session_open.specs.declared.index.NoIndex.{NoIndex}
-use Rattle.h5w_session_open.specs.OpenAnswers.{HasBegun, IfRefusal, IsOpenedOver, opened_session}
-use Rattle.h5w_session_open.specs.OpenParts.{IsPartOver, IsReadAt, IsUnfit, IsUnread, refused_part}
-use Rattle.h5w_session_open.specs.OpenSteps.{OpenStep, Says, front_of, versioned}
-use Rattle.h5w_session_open.proofs.OpenAnswerLemmas.{own_version}
-use Rattle.h5w_session_open.proofs.OpenStepLemmas.{refusal_map}
-use Rattle.h5w_session_open.proofs.PartLemmas.{kept_at, open_part, read_bad, read_good}
+use Rattle.h5w_writer.specs.Sessions.{Session}
+use Rattle.h5w_writer_open.specs.declared.index.NoIndex.{NoIndex}
+use Rattle.h5w_writer_open.specs.OpenAnswers.{HasBegun, IfRefusal, IsOpenedOver, opened_session}
+use Rattle.h5w_writer_open.specs.OpenParts.{IsPartOver, IsReadAt, IsUnfit, IsUnread, refused_part}
+use Rattle.h5w_writer_open.specs.OpenSteps.{OpenStep, Says, front_of, versioned}
+use Rattle.h5w_writer_open.proofs.OpenAnswerLemmas.{own_version}
+use Rattle.h5w_writer_open.proofs.OpenStepLemmas.{refusal_map}
+use Rattle.h5w_writer_open.proofs.PartLemmas.{kept_at, open_part, read_bad, read_good}
 use Rattle.h5w_several_open.specs.Answers.{CanRead, FirstUnfit, HasBegunWith, HaveBegun, IsFit, IsNotOpenedBy, IsOpenAnswerOf, no_front, unfit, unread}
 use Rattle.h5w_several_open.specs.Progress.{ArePartsAnswer, AreSessionsAt, AreTold, IsPartAt, IsRefusedAt, IsSessionAt, SoFar, a_session, first_refusal, joined, no_session, unfit_at, unread_at, writing_root}
 

@@ -3,9 +3,9 @@ use Rattle.std.proofs.Common.{◌≡◌, ℕ, ◌≤◌, List, [], ◌∷◌, ge
 use Rattle.h5w_model.specs.Relations.{AllPaired}
 use Rattle.h5w_model.specs.declared.root.Super.{Super}
 use Rattle.h5w_space.specs.Space.{Space}
-use Rattle.h5w_session.specs.PartLaws.{super_piece}
-use Rattle.h5w_session.specs.Sessions.{Session}
-use Rattle.h5w_several_session.specs.Opened.{AreOpened}
+use Rattle.h5w_writer.specs.PartLaws.{super_piece}
+use Rattle.h5w_writer.specs.Sessions.{Session}
+use Rattle.h5w_several_writer.specs.Opened.{AreOpened}
 use Rattle.h5w_several_open.specs.Answers.{HasBegunWith}
 
 -- there is one of each

@@ -13,31 +13,31 @@ use Rattle.h5w_model.specs.declared.root.Super.{Super}
 use Rattle.h5w_model.proofs.SuperLemmas.{length-super_bytes}
 use Rattle.h5w_space.specs.Space.{Space}
 use Rattle.h5w_several_laws.specs.Together.{IsAllValid, names_of}
-use Rattle.h5w_steps.specs.Logs.{Goes}
-use Rattle.h5w_steps.proofs.SessionLaws.{rests}
-use Rattle.h5w_steps.specs.Plans.{Plan}
+use Rattle.h5w_step_laws.specs.Logs.{Goes}
+use Rattle.h5w_step_laws.proofs.SessionLaws.{rests}
+use Rattle.h5w_step_laws.specs.Plans.{Plan}
 use Rattle.h5w_several_laws.specs.Dues.{RunsTo}
 use Rattle.h5w_several_laws.specs.Turns.{AreKnown, AreOff, Entry, IsOff, all_then, then_as}
 use Rattle.h5w_opening.proofs.FoundParts.{parts}
-use Rattle.h5w_session.specs.Loads.{end_in, first_end_of}
-use Rattle.h5w_session.specs.Openings.{opened_log}
-use Rattle.h5w_session.specs.PartLaws.{RunsAs, super_piece}
-use Rattle.h5w_session.specs.Sessions.{Session, AllEndBy as WritesEndBy}
-use Rattle.h5w_session.specs.Told.{told_log}
-use Rattle.h5w_session_open.specs.OpenAnswers.{IsOpenedOver}
-use Rattle.h5w_several_session_laws.specs.Began.{IsAmple, began_end, end_among}
-use Rattle.h5w_several_session_laws.specs.Seen.{IsSeen}
-use Rattle.h5w_several_session_laws.specs.Sessions.{all_pending}
-use Rattle.h5w_several_session_laws.proofs.RunLemmas.{planned_run}
-use Rattle.h5w_several_session_laws.specs.Courses.{AreThrough, IsAt, stands_of}
-use Rattle.h5w_several_session_laws.specs.Standing.{AreStandingParts, IsDone, IsStandingPart, most_in}
-use Rattle.h5w_several_session_laws.proofs.FlushAllLemmas.{stands_all}
-use Rattle.h5w_several_session_laws.specs.Valid.{AreValidFrom}
-use Rattle.h5w_several_session_laws.proofs.SightLemmas.{seen_opened}
-use Rattle.h5w_several_session_laws.proofs.ValidLemmas.{begun_valid}
+use Rattle.h5w_writer.specs.Loads.{end_in, first_end_of}
+use Rattle.h5w_writer.specs.Openings.{opened_log}
+use Rattle.h5w_writer.specs.PartLaws.{RunsAs, super_piece}
+use Rattle.h5w_writer.specs.Sessions.{Session, AllEndBy as WritesEndBy}
+use Rattle.h5w_writer.specs.Told.{told_log}
+use Rattle.h5w_writer_open.specs.OpenAnswers.{IsOpenedOver}
+use Rattle.h5w_several_writer_laws.specs.Began.{IsAmple, began_end, end_among}
+use Rattle.h5w_several_writer_laws.specs.Seen.{IsSeen}
+use Rattle.h5w_several_writer_laws.specs.Sessions.{all_pending}
+use Rattle.h5w_several_writer_laws.proofs.RunLemmas.{planned_run}
+use Rattle.h5w_several_writer_laws.specs.Courses.{AreThrough, IsAt, stands_of}
+use Rattle.h5w_several_writer_laws.specs.Standing.{AreStandingParts, IsDone, IsStandingPart, most_in}
+use Rattle.h5w_several_writer_laws.proofs.FlushAllLemmas.{stands_all}
+use Rattle.h5w_several_writer_laws.specs.Valid.{AreValidFrom}
+use Rattle.h5w_several_writer_laws.proofs.SightLemmas.{seen_opened}
+use Rattle.h5w_several_writer_laws.proofs.ValidLemmas.{begun_valid}
 use Rattle.h5w_several_open.specs.Answers.{HasBegunWith}
 use Rattle.h5w_several_open.specs.Begins.{BeginsPart, EachBegins, a_part, no_part}
-use Rattle.h5w_several_session.specs.Opened.{places_from, rested, sessions_over, settled}
+use Rattle.h5w_several_writer.specs.Opened.{places_from, rested, sessions_over, settled}
 use Rattle.h5w_several_open.specs.Stands.{OpensStanding, opened_file}
 use Rattle.h5w_several_open.proofs.BeginLemmas.{opens_all}
 

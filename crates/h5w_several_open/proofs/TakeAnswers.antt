@@ -13,25 +13,25 @@ use Rattle.h5w_model.proofs.SuperLemmas.{super_either}
 use Rattle.h5w_laws.proofs.ResultLemmas.{fails, refused_ok, then_ok}
 use Rattle.h5w_space.specs.Space.{Space}
 use Rattle.h5w_laws.proofs.LinkLemmas.{IsLinked}
-use Rattle.h5w_found.specs.Ran.{Refuses}
-use Rattle.h5w_found.specs.Walks.{root_header_for}
-use Rattle.h5w_found.proofs.RanLemmas.{same_value, step_ok}
+use Rattle.h5w_headers.specs.Ran.{Refuses}
+use Rattle.h5w_headers.specs.Walks.{root_header_for}
+use Rattle.h5w_headers.proofs.RanLemmas.{same_value, step_ok}
 use Rattle.h5w_opening.specs.Errors.{refusal_of}
 use Rattle.h5w_opening.specs.Fronts.{written_front}
 use Rattle.h5w_opening.specs.Openings.{Opened, dataset_found, is_written, place_found, refused_dataset, super_by, written_super}
 use Rattle.h5w_opening.specs.declared.error.OpenError.{OpenError}
 use Rattle.h5w_opening.specs.declared.error.OpenError.TheVariants.{Read, Version, Flags, Cut}
-use Rattle.h5w_session.specs.Sessions.{Session, cleared}
-use Rattle.h5w_session_open.specs.OpenAnswers.{IfRefusal, writing_flags}
-use Rattle.h5w_session_open.specs.OpenParts.{opened_at}
-use Rattle.h5w_session_open.specs.OpenRanges.{refused_open}
-use Rattle.h5w_session_open.proofs.OpenStepLemmas.{refusal_map}
-use Rattle.h5w_session_open.proofs.PartLemmas.{open_part}
-use Rattle.h5w_session_open.proofs.SessionOver.{unrefused_parts}
-use Rattle.h5w_several_session.specs.Opened.{places_from, rested, sessions_at_rest}
-use Rattle.h5w_several_session_laws.specs.Began.{began_end, end_among}
-use Rattle.h5w_several_session_laws.specs.Bounds.{IsGrown}
-use Rattle.h5w_several_session_laws.specs.Sessions.{AreSessions, Sessions}
+use Rattle.h5w_writer.specs.Sessions.{Session, cleared}
+use Rattle.h5w_writer_open.specs.OpenAnswers.{IfRefusal, writing_flags}
+use Rattle.h5w_writer_open.specs.OpenParts.{opened_at}
+use Rattle.h5w_writer_open.specs.OpenRanges.{refused_open}
+use Rattle.h5w_writer_open.proofs.OpenStepLemmas.{refusal_map}
+use Rattle.h5w_writer_open.proofs.PartLemmas.{open_part}
+use Rattle.h5w_writer_open.proofs.SessionOver.{unrefused_parts}
+use Rattle.h5w_several_writer.specs.Opened.{places_from, rested, sessions_at_rest}
+use Rattle.h5w_several_writer_laws.specs.Began.{began_end, end_among}
+use Rattle.h5w_several_writer_laws.specs.Bounds.{IsGrown}
+use Rattle.h5w_several_writer_laws.specs.Sessions.{AreSessions, Sessions}
 use Rattle.h5w_several_open.specs.Answers.{HasBegunWith, HaveBegun}
 use Rattle.h5w_several_open.specs.Progress.{ArePartsAnswer, AreSessionsAt, IsRefusedAt, IsSessionAt, a_session, no_session, unfit_at, unread_at}
 use Rattle.h5w_several_open.specs.Stands.{opened_file}

@@ -18,38 +18,38 @@ use Rattle.h5w_model.specs.declared.root.Super.{Super}
 use Rattle.h5w_laws.proofs.SeveralLemmas.{each_valid}
 use Rattle.h5w_header_laws.specs.Files.{chunk_0}
 use Rattle.h5w_space.specs.Space.{Space}
-use Rattle.h5w_steps.specs.Moments.{Moment, Represents, all_used}
-use Rattle.h5w_steps.specs.Steps.{OffAll}
-use Rattle.h5w_steps.proofs.FoundLemmas.{opens}
+use Rattle.h5w_step_laws.specs.Moments.{Moment, Represents, all_used}
+use Rattle.h5w_step_laws.specs.Steps.{OffAll}
+use Rattle.h5w_step_laws.proofs.FoundLemmas.{opens}
 use Rattle.h5w_flush_laws.specs.Knowledge.{KnownHeld}
 use Rattle.h5w_flush_laws.specs.Spaces.{AllLive}
-use Rattle.h5w_found.specs.Walks.{root_header_for}
+use Rattle.h5w_headers.specs.Walks.{root_header_for}
 use Rattle.h5w_index.specs.Views.{address_in}
 use Rattle.h5w_several_laws.specs.Together.{IsAllValid, names_of}
 use Rattle.h5w_several_laws.specs.Turns.{AreKnown, Entry}
 use Rattle.h5w_several_laws.proofs.BesideLemmas.{settled_apart}
 use Rattle.h5w_opening.specs.Openings.{Opened, dataset_found, refused_dataset}
 use Rattle.h5w_opening.proofs.FoundParts.{HeaderFound, header_found_by}
-use Rattle.h5w_session.specs.Openings.{IsOver, opened_log}
-use Rattle.h5w_session.specs.PartLaws.{RunsAs, rooted}
-use Rattle.h5w_session.specs.Sessions.{Session, AllEndBy as WritesEndBy}
-use Rattle.h5w_session.specs.Told.{told_of}
-use Rattle.h5w_session.proofs.PartLemmas.{part_laws}
-use Rattle.h5w_session_open.specs.OpenAnswers.{session_over}
-use Rattle.h5w_session_open.specs.OpenParts.{opened_at}
-use Rattle.h5w_session_open.specs.OpenRanges.{refused_open}
-use Rattle.h5w_session_open.proofs.OverFile.{HasParts, dataset_same, super_same}
-use Rattle.h5w_session_open.proofs.PartLemmas.{kept_at, open_part}
-use Rattle.h5w_session_open.proofs.SessionOver.{some_columns, unrefused_parts}
-use Rattle.h5w_several_session.specs.Opened.{places_from, rested, sessions_at_rest}
-use Rattle.h5w_several_session_laws.specs.Began.{began_end, end_among}
-use Rattle.h5w_several_session_laws.specs.Sessions.{Sessions, all_pending}
-use Rattle.h5w_several_session_laws.proofs.RunLemmas.{rest_run, runs_of}
-use Rattle.h5w_several_session_laws.specs.Courses.{AreThrough, stands_of}
-use Rattle.h5w_several_session_laws.specs.Standing.{AreStandingParts, IsDone, StandsAll, last_image, most_in}
-use Rattle.h5w_several_session_laws.specs.Valid.{AreValidFrom}
-use Rattle.h5w_several_session_laws.proofs.FlushAllLemmas.{stands_all}
-use Rattle.h5w_several_session_laws.proofs.SightLemmas.{seen_opened}
+use Rattle.h5w_writer.specs.Openings.{IsOver, opened_log}
+use Rattle.h5w_writer.specs.PartLaws.{RunsAs, rooted}
+use Rattle.h5w_writer.specs.Sessions.{Session, AllEndBy as WritesEndBy}
+use Rattle.h5w_writer.specs.Told.{told_of}
+use Rattle.h5w_writer.proofs.PartLemmas.{part_laws}
+use Rattle.h5w_writer_open.specs.OpenAnswers.{session_over}
+use Rattle.h5w_writer_open.specs.OpenParts.{opened_at}
+use Rattle.h5w_writer_open.specs.OpenRanges.{refused_open}
+use Rattle.h5w_writer_open.proofs.OverFile.{HasParts, dataset_same, super_same}
+use Rattle.h5w_writer_open.proofs.PartLemmas.{kept_at, open_part}
+use Rattle.h5w_writer_open.proofs.SessionOver.{some_columns, unrefused_parts}
+use Rattle.h5w_several_writer.specs.Opened.{places_from, rested, sessions_at_rest}
+use Rattle.h5w_several_writer_laws.specs.Began.{began_end, end_among}
+use Rattle.h5w_several_writer_laws.specs.Sessions.{Sessions, all_pending}
+use Rattle.h5w_several_writer_laws.proofs.RunLemmas.{rest_run, runs_of}
+use Rattle.h5w_several_writer_laws.specs.Courses.{AreThrough, stands_of}
+use Rattle.h5w_several_writer_laws.specs.Standing.{AreStandingParts, IsDone, StandsAll, last_image, most_in}
+use Rattle.h5w_several_writer_laws.specs.Valid.{AreValidFrom}
+use Rattle.h5w_several_writer_laws.proofs.FlushAllLemmas.{stands_all}
+use Rattle.h5w_several_writer_laws.proofs.SightLemmas.{seen_opened}
 use Rattle.h5w_several_open.specs.Begins.{ReadsIt}
 use Rattle.h5w_several_open.specs.Datasets.{IsEntry}
 use Rattle.h5w_several_open.specs.Progress.{AreSessionsAt, IsSessionAt, a_session, no_session}

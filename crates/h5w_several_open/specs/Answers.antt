@@ -10,10 +10,10 @@ use Rattle.h5w_opening.specs.Errors.{refusal_of}
 use Rattle.h5w_opening.specs.Fronts.{FrontFields, front_for}
 use Rattle.h5w_opening.specs.Openings.{Opened}
 use Rattle.h5w_opening.specs.declared.error.OpenError.{OpenError}
-use Rattle.h5w_session.specs.Sessions.{Session}
-use Rattle.h5w_session_open.specs.declared.index.NoIndex.{NoIndex}
-use Rattle.h5w_session_open.specs.OpenAnswers.{HasBegun, IfRefusal, IsOpenedOver}
-use Rattle.h5w_session_open.specs.OpenParts.{IsReadAt, IsUnread, refused_part}
+use Rattle.h5w_writer.specs.Sessions.{Session}
+use Rattle.h5w_writer_open.specs.declared.index.NoIndex.{NoIndex}
+use Rattle.h5w_writer_open.specs.OpenAnswers.{HasBegun, IfRefusal, IsOpenedOver}
+use Rattle.h5w_writer_open.specs.OpenParts.{IsReadAt, IsUnread, refused_part}
 
 -- ---- Datasets, each by the place of its header
 

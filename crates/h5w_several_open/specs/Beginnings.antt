@@ -15,14 +15,14 @@ use Rattle.h5w_opening.specs.Errors.{refusal_of}
 use Rattle.h5w_opening.specs.Openings.{Opened, dataset_found, looked_for, place_found, refused_dataset, super_by, written_super}
 use Rattle.h5w_opening.specs.declared.error.OpenError.{OpenError}
 use Rattle.h5w_opening.specs.declared.error.OpenError.TheVariants.{Read}
-use Rattle.h5w_session.specs.PartLaws.{super_piece}
-use Rattle.h5w_session.specs.Sessions.{Session}
-use Rattle.h5w_session_open.specs.declared.index.NoIndex.{NoIndex}
-use Rattle.h5w_session_open.specs.OpenAnswers.{IfRefusal, IsBadBlock, IsIndexOf, IsKeptIndexOf, opened_session, session_over, writing_flags}
-use Rattle.h5w_session_open.specs.OpenParts.{opened_at}
-use Rattle.h5w_session_open.specs.OpenRanges.{refused_open}
-use Rattle.h5w_several_session.specs.Opened.{sessions_at_rest, sessions_over}
-use Rattle.h5w_several_session_laws.specs.Sessions.{AreSessions, Sessions, all_pending}
+use Rattle.h5w_writer.specs.PartLaws.{super_piece}
+use Rattle.h5w_writer.specs.Sessions.{Session}
+use Rattle.h5w_writer_open.specs.declared.index.NoIndex.{NoIndex}
+use Rattle.h5w_writer_open.specs.OpenAnswers.{IfRefusal, IsBadBlock, IsIndexOf, IsKeptIndexOf, opened_session, session_over, writing_flags}
+use Rattle.h5w_writer_open.specs.OpenParts.{opened_at}
+use Rattle.h5w_writer_open.specs.OpenRanges.{refused_open}
+use Rattle.h5w_several_writer.specs.Opened.{sessions_at_rest, sessions_over}
+use Rattle.h5w_several_writer_laws.specs.Sessions.{AreSessions, Sessions, all_pending}
 use Rattle.h5w_several_open.specs.Answers.{HaveBegun, IsNotOpenedBy}
 use Rattle.h5w_several_open.specs.Sessions.{BeginsWith}
 use Rattle.h5w_several_open.specs.Taken.{IsNotTakenBy, closed_front}

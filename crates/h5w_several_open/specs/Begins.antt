@@ -7,15 +7,15 @@ use Rattle.h5w_model.specs.Relations.{AllPaired}
 use Rattle.h5w_model.specs.Several.{Begun}
 use Rattle.h5w_model.specs.Tables.{Reads}
 use Rattle.h5w_model.specs.declared.root.Super.{Super}
-use Rattle.h5w_visits.specs.Ranges.{Among}
-use Rattle.h5w_steps.specs.Plans.{Plan}
-use Rattle.h5w_steps.specs.Sessions.{Runs}
+use Rattle.h5w_visit_laws.specs.Ranges.{Among}
+use Rattle.h5w_step_laws.specs.Plans.{Plan}
+use Rattle.h5w_step_laws.specs.Sessions.{Runs}
 use Rattle.h5w_several_laws.specs.Turns.{AreKnown, AreOff, Entry, all_then, then_as}
-use Rattle.h5w_session.specs.Openings.{opened_log}
-use Rattle.h5w_session.specs.PartLaws.{RunsAs, super_piece}
-use Rattle.h5w_session.specs.Sessions.{Session}
-use Rattle.h5w_session.specs.Told.{told_log}
-use Rattle.h5w_session_open.specs.OpenAnswers.{IsOpenedOver}
+use Rattle.h5w_writer.specs.Openings.{opened_log}
+use Rattle.h5w_writer.specs.PartLaws.{RunsAs, super_piece}
+use Rattle.h5w_writer.specs.Sessions.{Session}
+use Rattle.h5w_writer.specs.Told.{told_log}
+use Rattle.h5w_writer_open.specs.OpenAnswers.{IsOpenedOver}
 use Rattle.h5w_several_open.specs.Answers.{HasBegunWith}
 use Rattle.h5w_several_open.specs.Datasets.{IsEntry}
 

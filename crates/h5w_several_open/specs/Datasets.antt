@@ -3,10 +3,10 @@ use Rattle.std.specs.Prelude.{◌≡◌, ℕ, ◌<◌, false, List, [], ◌∷�
 use Rattle.h5w_model.specs.Findings.{AllSummary, AllValid, Part, Used}
 use Rattle.h5w_model.specs.Relations.{AllPaired}
 use Rattle.h5w_model.specs.declared.root.Super.{Super}
-use Rattle.h5w_visits.specs.Ranges.{Among}
+use Rattle.h5w_visit_laws.specs.Ranges.{Among}
 use Rattle.h5w_space.specs.Space.{Space}
-use Rattle.h5w_steps.specs.Moments.{Moment, Represents}
-use Rattle.h5w_steps.specs.Steps.{OffAll}
+use Rattle.h5w_step_laws.specs.Moments.{Moment, Represents}
+use Rattle.h5w_step_laws.specs.Steps.{OffAll}
 use Rattle.h5w_flush_laws.specs.Knowledge.{Knows}
 use Rattle.h5w_several_laws.specs.Beside.{own_of}
 use Rattle.h5w_several_laws.specs.Turns.{AreKnown, AreOff, Entry}

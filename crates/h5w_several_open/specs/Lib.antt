@@ -1,6 +1,6 @@
 pub use Rattle.h5w_model.specs.Findings
 pub use Rattle.h5w_several_laws.specs.Turns
-pub use Rattle.h5w_session_open.specs.OpenAnswers
+pub use Rattle.h5w_writer_open.specs.OpenAnswers
 pub mod Datasets
 pub mod Answers
 pub mod Progress

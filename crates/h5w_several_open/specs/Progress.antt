@@ -13,11 +13,11 @@ use Rattle.h5w_opening.specs.Errors.{IsOpenKind, refusal_of}
 use Rattle.h5w_opening.specs.Openings.{Opened}
 use Rattle.h5w_opening.specs.declared.error.OpenError.{OpenError}
 use Rattle.h5w_opening.specs.declared.error.OpenError.TheVariants.{Failed}
-use Rattle.h5w_session.specs.Sessions.{Session}
-use Rattle.h5w_session_open.specs.declared.index.NoIndex.{NoIndex}
-use Rattle.h5w_session_open.specs.OpenAnswers.{IfRefusal, writing_flags}
-use Rattle.h5w_session_open.specs.OpenParts.{IsPartOver, IsReadAt, refused_part}
-use Rattle.h5w_session_open.specs.OpenSteps.{Says}
+use Rattle.h5w_writer.specs.Sessions.{Session}
+use Rattle.h5w_writer_open.specs.declared.index.NoIndex.{NoIndex}
+use Rattle.h5w_writer_open.specs.OpenAnswers.{IfRefusal, writing_flags}
+use Rattle.h5w_writer_open.specs.OpenParts.{IsPartOver, IsReadAt, refused_part}
+use Rattle.h5w_writer_open.specs.OpenSteps.{Says}
 use Rattle.h5w_several_open.specs.Answers.{CanRead, FirstUnfit, FirstUnread, HasBegunWith, IsFit}
 
 -- the superblock by which a file says that it is written

@@ -8,11 +8,11 @@ use Rattle.h5w_model.specs.declared.root.Super.{Super}
 use Rattle.h5w_opening.specs.Errors.{refusal_of}
 use Rattle.h5w_opening.specs.Openings.{Opened, is_open, looked_for, refused_dataset}
 use Rattle.h5w_opening.specs.declared.error.OpenError.{OpenError}
-use Rattle.h5w_session.specs.PartLaws.{super_piece}
-use Rattle.h5w_session.specs.Sessions.{Session, cleared}
-use Rattle.h5w_session_open.specs.OpenAnswers.{IfRefusal}
-use Rattle.h5w_several_session_laws.specs.Sessions.{AreSessions, Sessions, all_pending}
-use Rattle.h5w_several_session.specs.Opened.{sessions_over}
+use Rattle.h5w_writer.specs.PartLaws.{super_piece}
+use Rattle.h5w_writer.specs.Sessions.{Session, cleared}
+use Rattle.h5w_writer_open.specs.OpenAnswers.{IfRefusal}
+use Rattle.h5w_several_writer_laws.specs.Sessions.{AreSessions, Sessions, all_pending}
+use Rattle.h5w_several_writer.specs.Opened.{sessions_over}
 use Rattle.h5w_several_open.specs.Answers.{HaveBegun, IsNotOpenedBy, IsOpenedBy}
 use Rattle.h5w_several_open.specs.Progress.{writing_root}
 

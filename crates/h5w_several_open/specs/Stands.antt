@@ -4,12 +4,12 @@ use Rattle.h5w_model.specs.Findings.{AllSummary, AllValid}
 use Rattle.h5w_model.specs.Relations.{AllPaired}
 use Rattle.h5w_model.specs.Several.{Begun, FileLog}
 use Rattle.h5w_model.specs.declared.root.Super.{Super}
-use Rattle.h5w_session.specs.Sessions.{Session}
-use Rattle.h5w_session_open.specs.OpenAnswers.{IsOpenedOver}
-use Rattle.h5w_several_session_laws.specs.Standing.{StandsAll}
+use Rattle.h5w_writer.specs.Sessions.{Session}
+use Rattle.h5w_writer_open.specs.OpenAnswers.{IsOpenedOver}
+use Rattle.h5w_several_writer_laws.specs.Standing.{StandsAll}
 use Rattle.h5w_several_open.specs.Answers.{HasBegunWith}
 use Rattle.h5w_several_open.specs.Begins.{ReadsIt}
-use Rattle.h5w_several_session.specs.Opened.{sessions_over}
+use Rattle.h5w_several_writer.specs.Opened.{sessions_over}
 
 -- the log of a file that was opened, whose datasets these are, to which nothing happened yet
 abbrev pub opened_file : List ℕ → List Begun → FileLog

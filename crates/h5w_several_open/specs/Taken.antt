@@ -12,12 +12,12 @@ use Rattle.h5w_opening.specs.Errors.{refusal_of}
 use Rattle.h5w_opening.specs.Fronts.{FrontFields, written_front}
 use Rattle.h5w_opening.specs.Openings.{DatasetHeaderFields, dataset_found, is_written, place_found, refused_dataset}
 use Rattle.h5w_opening.specs.declared.error.OpenError.{OpenError}
-use Rattle.h5w_session.specs.Sessions.{Session, cleared}
-use Rattle.h5w_session_open.specs.OpenAnswers.{IfRefusal}
-use Rattle.h5w_session_open.specs.OpenParts.{opened_at}
-use Rattle.h5w_several_session_laws.specs.Sessions.{AreSessions, Sessions, all_pending}
-use Rattle.h5w_several_session_laws.specs.Standing.{StandsAll}
-use Rattle.h5w_several_session.specs.Opened.{sessions_at_rest}
+use Rattle.h5w_writer.specs.Sessions.{Session, cleared}
+use Rattle.h5w_writer_open.specs.OpenAnswers.{IfRefusal}
+use Rattle.h5w_writer_open.specs.OpenParts.{opened_at}
+use Rattle.h5w_several_writer_laws.specs.Sessions.{AreSessions, Sessions, all_pending}
+use Rattle.h5w_several_writer_laws.specs.Standing.{StandsAll}
+use Rattle.h5w_several_writer.specs.Opened.{sessions_at_rest}
 use Rattle.h5w_several_open.specs.Answers.{CanRead, FirstUnfit, FirstUnread, HaveBegun}
 use Rattle.h5w_several_open.specs.Begins.{ReadsIt}
 use Rattle.h5w_several_open.specs.Progress.{AreSessionsAt}

@@ -4,9 +4,9 @@ ghost use Rattle.h5w_model.specs.Findings.{Summary, Valid};
 ghost use Rattle.h5w_model.specs.Tables.{Reads};
 ghost use Rattle.h5w_looks.specs.Still.{IsStill};
 ghost use Rattle.h5w_opening.specs.Openings.{is_written};
-ghost use Rattle.h5w_session.specs.Openings.{opened_log};
-ghost use Rattle.h5w_session.specs.Stands.{Stands};
-ghost use Rattle.h5w_session_open.specs.OpenSteps.{OpenStep};
+ghost use Rattle.h5w_writer.specs.Openings.{opened_log};
+ghost use Rattle.h5w_writer.specs.Stands.{Stands};
+ghost use Rattle.h5w_writer_open.specs.OpenSteps.{OpenStep};
 ghost use Rattle.h5w_several_open.specs.Beginnings.{HasBegunBy, IsBegunOver, IsNotBegun, taken_over, written_at};
 
 use crate::taking::closed_front;
@@ -14,8 +14,8 @@ use h5w_image::PieceRead;
 use h5w_model::Super;
 use h5w_names::Names;
 use h5w_opening::{OpenError, find_written};
-use h5w_session::WriterCore;
-use h5w_session_open::{begin_over, read_at};
+use h5w_writer::WriterCore;
+use h5w_writer_open::{begin_over, read_at};
 use std::alloc::Global;
 
 /// The superblock of a file of `size` bytes that another session left, and the place of the dataset header, by the link of

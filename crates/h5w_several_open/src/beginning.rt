@@ -9,9 +9,9 @@ ghost use Rattle.h5w_model.specs.Tables.{Reads};
 ghost use Rattle.h5w_image.specs.View.{Looked};
 ghost use Rattle.h5w_looks.specs.Still.{IsStill};
 ghost use Rattle.h5w_opening.specs.Errors.{IsOpenKind};
-ghost use Rattle.h5w_session.specs.Openings.{opened_log};
-ghost use Rattle.h5w_session.specs.Stands.{Stands};
-ghost use Rattle.h5w_several_session_laws.specs.Standing.{StandsAll};
+ghost use Rattle.h5w_writer.specs.Openings.{opened_log};
+ghost use Rattle.h5w_writer.specs.Stands.{Stands};
+ghost use Rattle.h5w_several_writer_laws.specs.Standing.{StandsAll};
 ghost use Rattle.h5w_several_open.specs.Begins.{ReadsIt};
 ghost use Rattle.h5w_several_open.specs.Beginnings.{HasBegunBy, HaveBegunBy, IsAllAnswer, IsBeginAnswer};
 ghost use Rattle.h5w_several_open.specs.Stands.{opened_file};
@@ -22,8 +22,8 @@ use crate::taking::takeover;
 use h5w_image::PieceRead;
 use h5w_names::Names;
 use h5w_opening::OpenError;
-use h5w_session::WriterCore;
-use h5w_several_session::SeveralWriter;
+use h5w_writer::WriterCore;
+use h5w_several_writer::SeveralWriter;
 use std::alloc::Global;
 
 /// How a session begins over a file that is there.
@@ -37,7 +37,7 @@ pub enum Beginning {
 
 /// Begins a session over the dataset of this name in a file of `size` bytes, to append rows to it up to `limit` bytes of
 /// the file, of which at most `budget` bytes wait unwritten. The image is only looked at. An open is as
-/// [`open`](h5w_session_open::open) says. A takeover asks that both flags of a writer are set, else the file is refused
+/// [`open`](h5w_writer_open::open) says. A takeover asks that both flags of a writer are set, else the file is refused
 /// for its flags; all else is refused as it says. Nothing is pending then, new places begin at the superblock's
 /// end-of-file address, and nothing is free. Rows that the other session had not flushed are gone. Nobody else may write
 /// the file from then on.
@@ -69,7 +69,7 @@ pub fn begin_one<I: PieceRead>(
         → Stands s (opened_log img columns values)) }
 {
     match by {
-        Beginning::Opened => h5w_session_open::open(alloc, image, size, name, limit, budget),
+        Beginning::Opened => h5w_writer_open::open(alloc, image, size, name, limit, budget),
         Beginning::TakenOver => takeover_one(alloc, image, size, name, limit, budget),
     }
 }

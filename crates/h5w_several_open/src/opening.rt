@@ -7,11 +7,11 @@ ghost use Rattle.h5w_model.specs.Superblock.{super_at};
 ghost use Rattle.h5w_model.specs.declared.root.Super.{Super};
 ghost use Rattle.h5w_image.specs.View.{Looked};
 ghost use Rattle.h5w_looks.specs.Still.{IsStill};
-ghost use Rattle.h5w_found.specs.Ran.{seen};
+ghost use Rattle.h5w_headers.specs.Ran.{seen};
 ghost use Rattle.h5w_opening.specs.Errors.{IsOpenKind};
 ghost use Rattle.h5w_opening.specs.Openings.{is_open};
-ghost use Rattle.h5w_session_open.specs.OpenParts.{IsUnread};
-ghost use Rattle.h5w_session_open.specs.OpenSteps.{OpenStep};
+ghost use Rattle.h5w_writer_open.specs.OpenParts.{IsUnread};
+ghost use Rattle.h5w_writer_open.specs.OpenSteps.{OpenStep};
 ghost use Rattle.h5w_several_open.specs.Answers.{HasBegunWith, HaveBegun, IsOpenAnswerOf};
 ghost use Rattle.h5w_several_open.specs.Progress.{ArePartsAnswer, IsPartAt, first_refusal, joined, writing_root};
 
@@ -19,8 +19,8 @@ use h5w_image::PieceRead;
 use h5w_model::{OutOfMemory, Super};
 use h5w_names::Names;
 use h5w_opening::{OpenError, find_front};
-use h5w_session::WriterCore;
-use h5w_session_open::{begin_over, read_at};
+use h5w_writer::WriterCore;
+use h5w_writer_open::{begin_over, read_at};
 use std::alloc::Global;
 
 /// The session over the dataset of this name, whose header stands at `place`, or why no rows are appended to it: that is told once all datasets
@@ -114,7 +114,7 @@ pub(crate) fn parts_at<I: PieceRead>(
 ///
 /// Tried in this order: the superblock, its version, flags and end-of-file address; the root header; all links, in the order of the names; whether two
 /// lead to one dataset header; then dataset after dataset all that a look at its header and its index refuses, in the order that
-/// [`open`](h5w_session_open::open) says; and once all were read, dataset after dataset, what [`OpenError`] says from Layout on.
+/// [`open`](h5w_writer_open::open) says; and once all were read, dataset after dataset, what [`OpenError`] says from Layout on.
 ///
 /// Failed: the image's count of faults rose.
 pub fn open_parts<I: PieceRead>(

@@ -8,8 +8,8 @@ ghost use Rattle.h5w_model.specs.Several.{Begun};
 ghost use Rattle.h5w_image.specs.View.{Looked};
 ghost use Rattle.h5w_looks.specs.Still.{IsStill};
 ghost use Rattle.h5w_opening.specs.Errors.{IsOpenKind};
-ghost use Rattle.h5w_several_session_laws.specs.Bounds.{IsGrown};
-ghost use Rattle.h5w_several_session_laws.specs.Standing.{StandsAll};
+ghost use Rattle.h5w_several_writer_laws.specs.Bounds.{IsGrown};
+ghost use Rattle.h5w_several_writer_laws.specs.Standing.{StandsAll};
 ghost use Rattle.h5w_several_open.specs.Begins.{ReadsIt};
 ghost use Rattle.h5w_several_open.specs.Sessions.{HasBegunAll, IsSessionAnswer};
 ghost use Rattle.h5w_several_open.specs.Stands.{opened_file};
@@ -18,7 +18,7 @@ use crate::opening::open_parts;
 use h5w_image::PieceRead;
 use h5w_names::Names;
 use h5w_opening::OpenError;
-use h5w_several_session::SeveralWriter;
+use h5w_several_writer::SeveralWriter;
 use std::alloc::Global;
 
 /// Opens the datasets of these names in a file of `size` bytes that is there, 1 to 8 of them: one session appends rows to all, up to `limit` bytes

@@ -9,8 +9,8 @@ ghost use Rattle.h5w_image.specs.View.{Looked};
 ghost use Rattle.h5w_looks.specs.Still.{IsStill};
 ghost use Rattle.h5w_opening.specs.Errors.{IsOpenKind};
 ghost use Rattle.h5w_opening.specs.Openings.{is_open};
-ghost use Rattle.h5w_several_session_laws.specs.Bounds.{IsGrown};
-ghost use Rattle.h5w_several_session_laws.specs.Standing.{StandsAll};
+ghost use Rattle.h5w_several_writer_laws.specs.Bounds.{IsGrown};
+ghost use Rattle.h5w_several_writer_laws.specs.Standing.{StandsAll};
 ghost use Rattle.h5w_several_open.specs.Begins.{ReadsIt};
 ghost use Rattle.h5w_several_open.specs.Stands.{opened_file};
 ghost use Rattle.h5w_several_open.specs.Taken.{HasTakenAll, IsTakenAnswer, closed_front};
@@ -20,7 +20,7 @@ use h5w_image::PieceRead;
 use h5w_model::Super;
 use h5w_names::Names;
 use h5w_opening::{OpenError, find_written};
-use h5w_several_session::SeveralWriter;
+use h5w_several_writer::SeveralWriter;
 use std::alloc::Global;
 
 /// The superblock with the flags of a file that nobody writes.

@@ -4,9 +4,9 @@ use Rattle.std.specs.Prelude.{is_some, slice_get}
 use Rattle.h5w_model.specs.Lawful.{Line, Rules, ReaderState, ScriptState, Allowed, after_looks, looks, next_state, reader_in, with_reader}
 use Rattle.h5w_model.specs.declared.reply.Reply.{Reply}
 use Rattle.h5w_model.specs.declared.reply.Reply.TheVariants as replies
-use Rattle.h5w_polling.specs.OneByOne.{EndsLine, LookedOn}
-use Rattle.h5w_polling.proofs.OneByOneLemmas.{looks_one_by_one}
-use Rattle.h5w_polling.proofs.PutLemmas.{put_there}
+use Rattle.h5w_script_laws.specs.OneByOne.{EndsLine, LookedOn}
+use Rattle.h5w_script_laws.proofs.OneByOneLemmas.{looks_one_by_one}
+use Rattle.h5w_script_laws.proofs.PutLemmas.{put_there}
 use Rattle.h5w_several_scripts.specs.Scripts.{FileState, SetState, AllowedAll, AllowedOf, asks, next_all, says, set_asked, set_of, sets_after, with_state}
 use Rattle.h5w_several_scripts.proofs.SetLemmas.{got_is}
 

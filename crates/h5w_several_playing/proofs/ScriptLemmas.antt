@@ -4,12 +4,12 @@ use Rattle.std.specs.Prelude.{IfOk, nat_lt, false}
 use Rattle.h5w_model.specs.Lawful.{Line, looks, shows_up_to}
 use Rattle.h5w_model.specs.declared.reply.Reply.{Reply}
 use Rattle.h5w_model.specs.declared.reply.Reply.TheVariants as replies
-use Rattle.h5w_polling.specs.OneByOne.{EndsLine}
-use Rattle.h5w_session.specs.Sessions.{Session}
-use Rattle.h5w_several_session_laws.specs.Sessions.{all_pending}
+use Rattle.h5w_script_laws.specs.OneByOne.{EndsLine}
+use Rattle.h5w_writer.specs.Sessions.{Session}
+use Rattle.h5w_several_writer_laws.specs.Sessions.{all_pending}
 use Rattle.h5w_several_scripts.specs.Scripts.{FileReply, FileState, SetState, AllowedAll, asks, due, flushing_each, left_after, next_all, pending_in, says, shown_sets, total}
-use Rattle.h5w_several_worlds.specs.Worlds.{AreStatesOf}
-use Rattle.h5w_several_worlds.proofs.ShownLemmas.{total_left}
+use Rattle.h5w_several_world_laws.specs.Worlds.{AreStatesOf}
+use Rattle.h5w_several_world_laws.proofs.ShownLemmas.{total_left}
 use Rattle.h5w_several_core.specs.Worlds.{HaveFileLog, SeveralView, reply_of, rules_of}
 use Rattle.h5w_several_core.specs.declared.events.FileReply.{FileReply as Answer}
 use Rattle.h5w_several_core.specs.declared.events.FileReply.TheVariants as answers

@@ -32,7 +32,7 @@ pub struct SeveralScript {
 
 impl Model for SeveralScript {
     ghost use Rattle.std.specs.Coded.{codes};
-    ghost use Rattle.h5w_session.specs.Codes.{tree_code};
+    ghost use Rattle.h5w_writer.specs.Codes.{tree_code};
     ghost use Rattle.h5w_reader.specs.contracts.reader.ReaderCore as core;
     ghost use Rattle.h5w_several_core.specs.Worlds.{rules_of};
     ghost use Rattle.h5w_several_playing.specs.Sets.{IsScript, ScriptView};

@@ -6,7 +6,7 @@ use Rattle.h5w_model.specs.Lawful.{Rules, Line, adds, flushes, shows_up_to, ends
 use Rattle.h5w_model.specs.Logs.{needed_chunks}
 use Rattle.h5w_model.specs.declared.reply.Reply.{Reply}
 use Rattle.h5w_model.specs.declared.reply.Reply.TheVariants as replies
-use Rattle.h5w_polling.proofs.PutLemmas.{put_same}
+use Rattle.h5w_script_laws.proofs.PutLemmas.{put_same}
 use Rattle.h5w_several_scripts.specs.Scripts.{FileLine, uses, asks, FileReply, using, flushing_each, says, FileState, SetState, AllowedAll, AllowedOf, AppendAllowedIn, ArePlanned, FlushAllowedIn, IsEarlyIn, IsFullIn, IsPlannedIn, LawfulAll, append_reply_in, asked_of, due, next_all, rows_wait, set_asked, sets_after, total}
 use Rattle.h5w_several_scripts.specs.Alone.{OneDatasetLaws, alone, of_one}
 

@@ -11,10 +11,10 @@ use Rattle.h5w_model.specs.Lawful.{Rules, Line, adds, flushes, shows_up_to, ends
 use Rattle.h5w_model.specs.declared.piece.Write.{Write}
 use Rattle.h5w_model.specs.declared.reply.Reply.{Reply}
 use Rattle.h5w_model.specs.declared.reply.Reply.TheVariants as replies
-use Rattle.h5w_polling.specs.Polling.{Polling, MayPoll, now}
-use Rattle.h5w_polling.specs.Scripts.{Readers, AllPoll, Polled, Moves, Refuses, and_reader}
-use Rattle.h5w_polling.proofs.EventLemmas.{goes_on_still, polls_on, counts_same}
-use Rattle.h5w_polling.proofs.ScriptLemmas.{all_kept, writer_line_laws}
+use Rattle.h5w_script_laws.specs.Polling.{Polling, MayPoll, now}
+use Rattle.h5w_script_laws.specs.Scripts.{Readers, AllPoll, Polled, Moves, Refuses, and_reader}
+use Rattle.h5w_script_laws.proofs.EventLemmas.{goes_on_still, polls_on, counts_same}
+use Rattle.h5w_script_laws.proofs.ScriptLemmas.{all_kept, writer_line_laws}
 use Rattle.h5w_several_scripts.specs.Scripts.{uses, asks, using, flushing_each, says, FileState, SetState, AllowedAll, AllowedOf, added, asked_of, next_all, planned, set_after, set_asked, sets_after, shown_sets}
 use Rattle.h5w_several_scripts.specs.Polled.{Places, readers_of, and_place, IsPolled, FilePolled, IsOf, ReaderFileLaws, WriterFileLaws}
 use Rattle.h5w_several_scripts.proofs.SetLemmas.{finds, finds_none, got_after, got_is, got_map, got_planned, has_reader, length_after, length_planned}

@@ -8,8 +8,8 @@ use Rattle.h5w_model.specs.Lawful.{Line, adds, flushes, shows_up_to, ends, opens
 use Rattle.h5w_model.specs.declared.piece.Write.{Write}
 use Rattle.h5w_model.specs.declared.reply.Reply.{Reply}
 use Rattle.h5w_model.specs.declared.reply.Reply.TheVariants as replies
-use Rattle.h5w_polling.specs.Polling.{Polling}
-use Rattle.h5w_polling.specs.Scripts.{Readers, Polled, Moves, Refuses}
+use Rattle.h5w_script_laws.specs.Polling.{Polling}
+use Rattle.h5w_script_laws.specs.Scripts.{Readers, Polled, Moves, Refuses}
 use Rattle.h5w_several_scripts.specs.Scripts.{uses, asks, using, flushing_each, says, FileState, SetState, AllowedAll, added, next_all, set_asked, shown_sets}
 
 -- each reader that was opened, by its number, with the number of its dataset, counted from 0

@@ -6,15 +6,15 @@ use Rattle.h5w_model.specs.Findings.{Used, chunk_bytes}
 use Rattle.h5w_model.specs.Logs.{Log, appended}
 use Rattle.h5w_model.specs.declared.cell.IndexKind.TheVariants.{Array}
 use Rattle.h5w_model.specs.declared.piece.Write.{Write}
-use Rattle.h5w_visits.specs.Ranges.{block_at}
+use Rattle.h5w_visit_laws.specs.Ranges.{block_at}
 use Rattle.h5w_space.specs.Space.{Space}
 use Rattle.h5w_cache.specs.Stores.{Store, place_of}
 use Rattle.h5w_cache.specs.Plans.{bytes_in}
 use Rattle.h5w_cache.specs.StoreLaws.{Standing}
 use Rattle.h5w_header_laws.specs.Files.{commit_at}
-use Rattle.h5w_steps.specs.Moments.{Moment}
-use Rattle.h5w_steps.specs.Logs.{image_now}
-use Rattle.h5w_steps.specs.Sessions.{Runs}
+use Rattle.h5w_step_laws.specs.Moments.{Moment}
+use Rattle.h5w_step_laws.specs.Logs.{image_now}
+use Rattle.h5w_step_laws.specs.Sessions.{Runs}
 use Rattle.h5w_array_laws.specs.ArrayStores.{IsArray, header_place, map_of}
 use Rattle.h5w_array_laws.specs.ArrayImages.{StandsArray}
 use Rattle.h5w_array_laws.specs.ArrayWrites.{MissArray}
@@ -25,9 +25,9 @@ use Rattle.h5w_flush_laws.specs.Flushes.{Rests, flush_planned}
 use Rattle.h5w_flush_laws.proofs.FlushLaws.{final_image, index_missed_by_header, flush_safe, knows_then, freed_known}
 use Rattle.h5w_flush_laws.proofs.HeaderLemmas.{last_image}
 use Rattle.h5w_flush_laws.proofs.SessionLaws.{session_laws, shown_image}
-use Rattle.h5w_array_flushes.specs.ArrayFlushes.{ArrayRests}
-use Rattle.h5w_array_flushes.proofs.ArrayFlushLemmas.{placed_range}
-use Rattle.h5w_array_flushes.proofs.ArrayRestLemmas.{standing_freed}
+use Rattle.h5w_array_flush_laws.specs.ArrayFlushes.{ArrayRests}
+use Rattle.h5w_array_flush_laws.proofs.ArrayFlushLemmas.{placed_range}
+use Rattle.h5w_array_flush_laws.proofs.ArrayRestLemmas.{standing_freed}
 use Rattle.h5w_starting_laws.specs.Starting.{no_chunk}
 use Rattle.h5w_starting_laws.specs.StartFlushes.{first_parts, IsStarted, IsStartedOver}
 

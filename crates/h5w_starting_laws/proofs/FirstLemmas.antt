@@ -8,9 +8,9 @@ use Rattle.h5w_model.specs.Numbers.{undefined}
 use Rattle.h5w_model.specs.Findings.{Used, chunk_bytes}
 use Rattle.h5w_model.specs.declared.cell.IndexKind.TheVariants.{Array}
 use Rattle.h5w_model.specs.declared.piece.Write.{Write}
-use Rattle.h5w_visits.specs.Needed.{AreFew}
-use Rattle.h5w_visits.specs.Ranges.{Among, AllEndBy, block_at}
-use Rattle.h5w_visits.proofs.RangeLemmas.{among_left, among_right, among_split}
+use Rattle.h5w_visit_laws.specs.Needed.{AreFew}
+use Rattle.h5w_visit_laws.specs.Ranges.{Among, AllEndBy, block_at}
+use Rattle.h5w_visit_laws.proofs.RangeLemmas.{among_left, among_right, among_split}
 use Rattle.h5w_space.specs.Space.{Space}
 use Rattle.h5w_cache.specs.Stores.{Store, place_of, times}
 use Rattle.h5w_cache.specs.Plans.{bytes_in, numbers}
@@ -19,9 +19,9 @@ use Rattle.h5w_cache.specs.declared.moves.Move.{Move}
 use Rattle.h5w_cache.proofs.LawLemmas.{no_move}
 use Rattle.h5w_chunks.specs.declared.grid.ChunkPlace.{ChunkPlace}
 use Rattle.h5w_header_laws.specs.Files.{with_index, with_rows}
-use Rattle.h5w_steps.specs.Moments.{Moment}
-use Rattle.h5w_steps.specs.Counts.{count_at}
-use Rattle.h5w_steps.proofs.PartLemmas.{count_joined}
+use Rattle.h5w_step_laws.specs.Moments.{Moment}
+use Rattle.h5w_step_laws.specs.Counts.{count_at}
+use Rattle.h5w_step_laws.proofs.PartLemmas.{count_joined}
 use Rattle.h5w_array_laws.specs.Among.{AreAmong}
 use Rattle.h5w_array_laws.specs.Parts.{index_block}
 use Rattle.h5w_array_laws.specs.ArrayStores.{fixed_of, behind_of, blocks_in_place, header_place}
@@ -42,9 +42,9 @@ use Rattle.h5w_flush_laws.specs.Rows.{ArePlaced, RowsPart}
 use Rattle.h5w_flush_laws.specs.Chunks.{AreChunks, chunks_for}
 use Rattle.h5w_flush_laws.proofs.SpaceLemmas.{taken_laws}
 use Rattle.h5w_flush_laws.proofs.RowsLaws.{rows_flush}
-use Rattle.h5w_array_flushes.specs.ArrayFlushes.{ArePlaces, IsArrayPart}
-use Rattle.h5w_array_flushes.proofs.ArrayLaws.{new_are}
-use Rattle.h5w_array_flushes.proofs.ArrayPlaceLemmas.{array_places}
+use Rattle.h5w_array_flush_laws.specs.ArrayFlushes.{ArePlaces, IsArrayPart}
+use Rattle.h5w_array_flush_laws.proofs.ArrayLaws.{new_are}
+use Rattle.h5w_array_flush_laws.proofs.ArrayPlaceLemmas.{array_places}
 use Rattle.h5w_starting_laws.specs.Starting.{no_chunk, IsBlank}
 use Rattle.h5w_starting_laws.specs.StartFlushes.{IsStartingPart, first_parts}
 use Rattle.h5w_starting_laws.proofs.TakenLemmas.{taken_again, taken_right}

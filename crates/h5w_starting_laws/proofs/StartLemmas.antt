@@ -11,14 +11,14 @@ use Rattle.h5w_model.specs.Findings.{Used, Finding, chunk_bytes}
 use Rattle.h5w_model.specs.declared.cell.Key.{Key}
 use Rattle.h5w_model.specs.declared.cell.IndexKind.TheVariants.{Array, Tree}
 use Rattle.h5w_model.specs.declared.refusal.ReadError.{ReadError}
-use Rattle.h5w_visits.specs.Ranges.{Among, Disjoint, block_at, blocks_of}
-use Rattle.h5w_visits.specs.Indexes.{behind_visit}
+use Rattle.h5w_visit_laws.specs.Ranges.{Among, Disjoint, block_at, blocks_of}
+use Rattle.h5w_visit_laws.specs.Indexes.{behind_visit}
 use Rattle.h5w_space.specs.Space.{Commits, Space, IsLive, Apart, extent}
 use Rattle.h5w_space.proofs.Sound.{Apart-sym}
 use Rattle.h5w_cache.specs.Stores.{Store, place_of}
 use Rattle.h5w_cache.specs.Plans.{bytes_in}
 use Rattle.h5w_cache.specs.StoreLaws.{IsPlaced, Standing, range_of}
-use Rattle.h5w_steps.specs.Moments.{Moment}
+use Rattle.h5w_step_laws.specs.Moments.{Moment}
 use Rattle.h5w_array_laws.specs.Parts.{index_block}
 use Rattle.h5w_array_laws.specs.ArrayStores.{IsArray, place_at_part, header_place, fixed_of}
 use Rattle.h5w_array_laws.proofs.StandLemmas.{header_length, index_length}
@@ -29,7 +29,7 @@ use Rattle.h5w_flush_laws.specs.Knowledge.{KnownHeld}
 use Rattle.h5w_flush_laws.proofs.SpaceLemmas.{have_no_byte, committed_live}
 use Rattle.h5w_flush_laws.proofs.KnownLaws.{begin_knows, end_known, one_answer}
 use Rattle.h5w_flush_laws.proofs.FlushLaws.{freed_known}
-use Rattle.h5w_array_flushes.proofs.ArrayRestLemmas.{standing_freed}
+use Rattle.h5w_array_flush_laws.proofs.ArrayRestLemmas.{standing_freed}
 use Rattle.h5w_starting_laws.specs.Starting.{no_chunk, IsUnnamed, IsBlank, StartRests, UnnamedNowhere, CreatedBlank, BlankMap, BlankHeld, StartBegins, StartOf, StartEnds, StartFreed, StartTakes, RestsStay}
 
 -- ---- An index that is not there

@@ -13,7 +13,7 @@ use Rattle.h5w_cache.specs.Stores.{Store, is_changed, times}
 use Rattle.h5w_cache.specs.Plans.{numbers}
 use Rattle.h5w_cache.specs.declared.moves.Move.{Move}
 use Rattle.h5w_header_laws.specs.Files.{commit_at}
-use Rattle.h5w_steps.specs.Moments.{Moment}
+use Rattle.h5w_step_laws.specs.Moments.{Moment}
 use Rattle.h5w_array_laws.specs.Parts.{Part, data_of, secondary_of, index_block, header, IsPart, number_of, holder}
 use Rattle.h5w_array_laws.specs.ArrayStores.{IsArray, place_at_part, bytes_at_part, header_place}
 use Rattle.h5w_array_laws.specs.ArrayImages.{IsPlanned}

@@ -8,8 +8,8 @@ use Rattle.h5w_model.specs.Logs.{Log, plans, appended, and_now}
 use Rattle.h5w_model.specs.Arrays.{eahd_len, eaib_len}
 use Rattle.h5w_model.specs.Findings.{Used, chunk_bytes}
 use Rattle.h5w_model.specs.declared.piece.Write.{Write}
-use Rattle.h5w_visits.specs.Ranges.{block_at}
-use Rattle.h5w_visits.specs.Needed.{AreFew}
+use Rattle.h5w_visit_laws.specs.Ranges.{block_at}
+use Rattle.h5w_visit_laws.specs.Needed.{AreFew}
 use Rattle.h5w_chunks.specs.declared.grid.ChunkPlace.{ChunkPlace}
 use Rattle.h5w_header_laws.specs.Files.{chunk_0, commit_at, with_rows}
 use Rattle.h5w_space.specs.Space.{Space, extent}
@@ -17,9 +17,9 @@ use Rattle.h5w_cache.specs.Plans.{Took}
 use Rattle.h5w_cache.specs.Stores.{Store, place_of, is_changed}
 use Rattle.h5w_cache.specs.StoreLaws.{Standing}
 use Rattle.h5w_cache.specs.declared.moves.Move.{Move}
-use Rattle.h5w_steps.specs.Moments.{Moment}
-use Rattle.h5w_steps.specs.Logs.{image_now}
-use Rattle.h5w_steps.specs.Sessions.{Runs}
+use Rattle.h5w_step_laws.specs.Moments.{Moment}
+use Rattle.h5w_step_laws.specs.Logs.{image_now}
+use Rattle.h5w_step_laws.specs.Sessions.{Runs}
 use Rattle.h5w_array_laws.specs.Among.{AreAmong}
 use Rattle.h5w_array_laws.specs.Parts.{index_block, number_of}
 use Rattle.h5w_array_laws.specs.ArrayStores.{IsArray, IsCreated, header_place, map_of, fixed_of, behind_of}
@@ -28,7 +28,7 @@ use Rattle.h5w_flush_laws.specs.Spaces.{Taken}
 use Rattle.h5w_flush_laws.specs.Parts.{AreEnded, block_writes, committed, pieces_of}
 use Rattle.h5w_flush_laws.specs.Rows.{ArePlaced}
 use Rattle.h5w_flush_laws.specs.Chunks.{chunks_for}
-use Rattle.h5w_array_flushes.specs.ArrayBegins.{Begins}
+use Rattle.h5w_array_flush_laws.specs.ArrayBegins.{Begins}
 use Rattle.h5w_starting_laws.specs.Starting.{no_chunk, IsBlank, StartKnows}
 use Rattle.h5w_starting_laws.specs.StartFlushes.{IsStart, parts_for}
 

@@ -7,17 +7,17 @@ use Rattle.h5w_model.specs.Headers.{with_rows_bytes}
 use Rattle.h5w_model.specs.Findings.{Used, chunk_bytes}
 use Rattle.h5w_model.specs.Logs.{Log, appended}
 use Rattle.h5w_model.specs.declared.piece.Write.{Write}
-use Rattle.h5w_visits.specs.Needed.{AreFew}
+use Rattle.h5w_visit_laws.specs.Needed.{AreFew}
 use Rattle.h5w_chunks.specs.declared.grid.ChunkPlace.{ChunkPlace}
 use Rattle.h5w_header_laws.specs.Files.{chunk_0, commit_at, with_rows}
 use Rattle.h5w_space.specs.Space.{Space, Commits}
 use Rattle.h5w_cache.specs.Stores.{Store, place_of, is_changed}
 use Rattle.h5w_cache.specs.StoreLaws.{Standing}
 use Rattle.h5w_cache.specs.declared.moves.Move.{Move}
-use Rattle.h5w_steps.specs.Moments.{Moment}
-use Rattle.h5w_steps.specs.Plans.{Flush}
-use Rattle.h5w_steps.specs.Logs.{image_now}
-use Rattle.h5w_steps.specs.Sessions.{Runs}
+use Rattle.h5w_step_laws.specs.Moments.{Moment}
+use Rattle.h5w_step_laws.specs.Plans.{Flush}
+use Rattle.h5w_step_laws.specs.Logs.{image_now}
+use Rattle.h5w_step_laws.specs.Sessions.{Runs}
 use Rattle.h5w_array_laws.specs.Among.{AreAmong}
 use Rattle.h5w_array_laws.specs.Parts.{index_block, header, holder, number_of}
 use Rattle.h5w_array_laws.specs.ArrayStores.{IsArray, place_at_part, bytes_at_part, header_place, map_of, fixed_of, behind_of}
@@ -28,8 +28,8 @@ use Rattle.h5w_flush_laws.specs.Parts.{Parts, AreEnded, IsFlush, flushed_to, pie
 use Rattle.h5w_flush_laws.specs.Rows.{ArePlaced}
 use Rattle.h5w_flush_laws.specs.Flushes.{Rests, shown_also, flush_planned}
 use Rattle.h5w_flush_laws.specs.Chunks.{chunks_for}
-use Rattle.h5w_array_flushes.specs.ArrayFlushes.{ArrayRests}
-use Rattle.h5w_array_flushes.specs.ArrayBegins.{Begins}
+use Rattle.h5w_array_flush_laws.specs.ArrayFlushes.{ArrayRests}
+use Rattle.h5w_array_flush_laws.specs.ArrayBegins.{Begins}
 use Rattle.h5w_starting_laws.specs.Starting.{no_chunk, StartKnows}
 
 -- the array's index block and its header, as blocks at new places

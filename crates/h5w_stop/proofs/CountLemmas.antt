@@ -10,12 +10,12 @@ use Rattle.h5w_model.specs.declared.piece.Write.{Write}
 use Rattle.h5w_laws.proofs.LogLemmas.{div_rises, events_at_earlier, flushed_begins, take_nil}
 use Rattle.h5w_stop.specs.Outcomes.{AreRuns}
 use Rattle.h5w_stop.specs.Sweeps.{Appends, DoAll, Does, Flushes, Rest, flush_counts, found_at, line_counts, no_rows, outcome_of_run, rest_after}
-use Rattle.h5w_headline.specs.Showing.{showing}
+use Rattle.h5w_reader_laws.specs.Showing.{showing}
 use Rattle.h5w_stop.specs.declared.outcome.Outcome.{Outcome}
 use Rattle.h5w_stop.specs.declared.outcome.Outcome.TheVariants.{NoFile, Rows}
 use Rattle.h5w_stop.specs.declared.report.Run.{Run}
 use Rattle.h5w_stop.proofs.RunLemmas.{begins_one, runs_longer, runs_same}
-use Rattle.h5w_headline.proofs.ShowingLemmas.{appended_showing, events_among, events_before, flushed_showing, shown_showing}
+use Rattle.h5w_reader_laws.proofs.ShowingLemmas.{appended_showing, events_among, events_before, flushed_showing, shown_showing}
 
 rows_one : (m n : ℕ) → ◌≡◌ {A = Outcome} (Rows m) (Rows n) → m ≡ n
 rows_one m n e = cc

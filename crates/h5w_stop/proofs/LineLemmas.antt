@@ -5,7 +5,7 @@ use Rattle.h5w_model.specs.Logs.{Happening, appended_in, appends, hist, plans}
 use Rattle.h5w_model.specs.declared.piece.Write.{Write}
 use Rattle.h5w_laws.proofs.LogLemmas.{div_rises}
 use Rattle.h5w_stop.specs.Sweeps.{DoAll, Does, Rest, rest_after, rest_of}
-use Rattle.h5w_headline.proofs.ShowingLemmas.{appended_showing, hist_showing}
+use Rattle.h5w_reader_laws.proofs.ShowingLemmas.{appended_showing, hist_showing}
 
 module _ (g : Rules) where
   -- behind one more

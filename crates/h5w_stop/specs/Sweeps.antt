@@ -7,7 +7,7 @@ use Rattle.h5w_model.specs.declared.piece.Write.{Write}
 use Rattle.h5w_stop.specs.declared.outcome.Outcome.{Outcome}
 use Rattle.h5w_stop.specs.declared.outcome.Outcome.TheVariants.{NoFile, Rows}
 use Rattle.h5w_stop.specs.declared.report.Run.{Run}
-use Rattle.h5w_headline.specs.Showing.{showing}
+use Rattle.h5w_reader_laws.specs.Showing.{showing}
 
 -- at a position of a log: no file before its first superblock is visible, and from then on the rows that are flushed there
 abbrev pub found_at : Log → ℕ → Outcome

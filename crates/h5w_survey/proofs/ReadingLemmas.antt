@@ -13,9 +13,9 @@ use Rattle.h5w_model.specs.declared.refusal.ReadError.{ReadError}
 use Rattle.h5w_model.specs.declared.refusal.ReadError.TheVariants.{Shrunk, TooManyChunks, Unsupported}
 use Rattle.h5w_laws.proofs.ProgramLemmas.{eval_and_then}
 use Rattle.h5w_laws.proofs.LoweringLemmas.{lowered_still}
-use Rattle.h5w_headline.proofs.KnownLemmas.{from_nothing}
-use Rattle.h5w_found.specs.Walks.{dataset_header_for, root_header_for}
-use Rattle.h5w_found.proofs.ReadingLemmas.{dataset_reading, root_reading}
+use Rattle.h5w_reader_laws.proofs.KnownLemmas.{from_nothing}
+use Rattle.h5w_headers.specs.Walks.{dataset_header_for, root_header_for}
+use Rattle.h5w_headers.proofs.ReadingLemmas.{dataset_reading, root_reading}
 use Rattle.h5w_lookup.specs.Attempts.{described_rest, rules_of}
 use Rattle.h5w_lookup.specs.declared.known.Rules.{Rules}
 use Rattle.h5w_survey.specs.Lookups.{behind_place, behind_root, place_behind, table_behind}

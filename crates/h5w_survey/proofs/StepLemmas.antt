@@ -18,11 +18,11 @@ use Rattle.h5w_image.specs.View.{ImageView, Looked}
 use Rattle.h5w_image.proofs.ViewLemmas.{looked_itself, looked_twice}
 use Rattle.h5w_looks.specs.Still.{IsStill}
 use Rattle.h5w_looks.proofs.ReadLemmas.{still_on}
-use Rattle.h5w_found.specs.Errors.{find_errors}
-use Rattle.h5w_found.specs.Ran.{Ran}
-use Rattle.h5w_found.specs.declared.error.FindError.{FindError}
-use Rattle.h5w_found.specs.declared.error.FindError.TheVariants as finds
-use Rattle.h5w_found.proofs.RanLemmas.{later, tells_along}
+use Rattle.h5w_headers.specs.Errors.{find_errors}
+use Rattle.h5w_headers.specs.Ran.{Ran}
+use Rattle.h5w_headers.specs.declared.error.FindError.{FindError}
+use Rattle.h5w_headers.specs.declared.error.FindError.TheVariants as finds
+use Rattle.h5w_headers.proofs.RanLemmas.{later, tells_along}
 use Rattle.h5w_check.specs.Ran.{Tells}
 use Rattle.h5w_check.specs.declared.error.CheckError.{CheckError}
 use Rattle.h5w_check.specs.declared.error.CheckError.TheVariants as checks

@@ -20,7 +20,7 @@ use Rattle.h5w_laws.proofs.ValidLemmas.{valid_shows}
 use Rattle.h5w_header_laws.proofs.DescribedLemmas.{parts_of}
 use Rattle.h5w_laws.proofs.SeveralLemmas.{each_valid, finds_all}
 use Rattle.h5w_laws.specs.Several.{IsShare}
-use Rattle.h5w_steps.proofs.MomentLemmas.{super_parts}
+use Rattle.h5w_step_laws.proofs.MomentLemmas.{super_parts}
 use Rattle.h5w_model.specs.Findings.{AllSummary, Summary, Valid}
 use Rattle.h5w_model.specs.Relations.{AllPaired}
 use Rattle.h5w_header_laws.proofs.ShapeLemmas.{by_rank}

@@ -1,8 +1,8 @@
 -- The errors of others, as those of a survey.
 use Rattle.h5w_check.specs.declared.error.CheckError.{CheckError}
 use Rattle.h5w_check.specs.declared.error.CheckError.TheVariants as checks
-use Rattle.h5w_found.specs.declared.error.FindError.{FindError}
-use Rattle.h5w_found.specs.declared.error.FindError.TheVariants as finds
+use Rattle.h5w_headers.specs.declared.error.FindError.{FindError}
+use Rattle.h5w_headers.specs.declared.error.FindError.TheVariants as finds
 use Rattle.h5w_survey.specs.declared.error.SurveyError.{SurveyError}
 use Rattle.h5w_survey.specs.declared.error.SurveyError.TheVariants.{Finding, Overlap, Failed, OutOfMemory}
 

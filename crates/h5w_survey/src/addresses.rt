@@ -4,12 +4,12 @@ ghost use Rattle.h5w_model.specs.Programs.{eval};
 ghost use Rattle.h5w_dataset.specs.Founds.{founds};
 ghost use Rattle.h5w_lookup.specs.Attempts.{described_rest, rules_of};
 ghost use Rattle.h5w_lookup.specs.Descents.{reading_news};
-ghost use Rattle.h5w_found.specs.Errors.{find_errors};
-ghost use Rattle.h5w_found.specs.Ran.{Ran, seen};
+ghost use Rattle.h5w_headers.specs.Errors.{find_errors};
+ghost use Rattle.h5w_headers.specs.Ran.{Ran, seen};
 
 use crate::looking::looked_up;
 use h5w_dataset::FoundMessage;
-use h5w_found::FindError;
+use h5w_headers::FindError;
 use h5w_image::PieceRead;
 use h5w_lookup::{News, Rules, settle};
 use h5w_model::OutOfMemory;

@@ -1,13 +1,13 @@
 //! A dataset, from the root header on.
 ghost use Rattle.std.specs.Prelude.{None};
 ghost use Rattle.h5w_model.specs.Programs.{eval};
-ghost use Rattle.h5w_found.specs.Errors.{find_errors};
-ghost use Rattle.h5w_found.specs.Ran.{Ran, seen};
+ghost use Rattle.h5w_headers.specs.Errors.{find_errors};
+ghost use Rattle.h5w_headers.specs.Ran.{Ran, seen};
 ghost use Rattle.h5w_lookup.specs.Descents.{reading_news};
 ghost use Rattle.h5w_survey.specs.Lookups.{behind_place, behind_root, place_behind};
 
 use crate::addresses::addresses;
-use h5w_found::{FindError, dataset_header, place_of, root_header};
+use h5w_headers::{FindError, dataset_header, place_of, root_header};
 use h5w_image::PieceRead;
 use h5w_lookup::{News, Rules};
 use std::alloc::Global;

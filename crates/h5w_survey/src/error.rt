@@ -1,5 +1,5 @@
 use h5w_check::CheckError;
-use h5w_found::FindError;
+use h5w_headers::FindError;
 use thiserror::Error;
 
 /// Why a file is not written anew, tried in this order.

@@ -4,7 +4,7 @@ ghost use Rattle.h5w_survey.specs.Surveys.{ClosedSuper, RefusedSuper, is_written
 ghost use Rattle.h5w_survey.specs.Steps.{SurveyStep};
 
 use crate::error::SurveyError;
-use h5w_found::superblock;
+use h5w_headers::superblock;
 use h5w_image::PieceRead;
 use h5w_model::Super;
 use std::alloc::Global;

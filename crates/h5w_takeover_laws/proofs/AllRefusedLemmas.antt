@@ -17,12 +17,12 @@ use Rattle.h5w_model.specs.declared.root.Super.{Super}
 use Rattle.h5w_laws.proofs.LinkLemmas.{IsLinked, links_from, same_links}
 use Rattle.h5w_laws.proofs.ResultLemmas.{then_ok}
 use Rattle.h5w_laws.proofs.SeveralLemmas.{all_ranges}
-use Rattle.h5w_steps.specs.Moments.{Moment, Represents, reading_of}
-use Rattle.h5w_steps.proofs.FoundLemmas.{moment_shows, opens}
-use Rattle.h5w_steps.proofs.MomentLemmas.{super_parts}
+use Rattle.h5w_step_laws.specs.Moments.{Moment, Represents, reading_of}
+use Rattle.h5w_step_laws.proofs.FoundLemmas.{moment_shows, opens}
+use Rattle.h5w_step_laws.proofs.MomentLemmas.{super_parts}
 use Rattle.h5w_several_laws.proofs.SeenLemmas.{seen_laws}
-use Rattle.h5w_found.specs.Walks.{root_header_for}
-use Rattle.h5w_found.proofs.RanLemmas.{same_value, step_ok}
+use Rattle.h5w_headers.specs.Walks.{root_header_for}
+use Rattle.h5w_headers.proofs.RanLemmas.{same_value, step_ok}
 use Rattle.h5w_index.specs.Views.{IndexView}
 use Rattle.h5w_opening.specs.Fronts.{FrontFields, places_by, places_found, unlike, written_front}
 use Rattle.h5w_opening.specs.Openings.{DatasetHeaderFields, Opened, dataset_found, place_found, refused_dataset, super_by, written_super}
@@ -30,31 +30,31 @@ use Rattle.h5w_opening.specs.declared.error.OpenError.{OpenError}
 use Rattle.h5w_opening.specs.declared.error.OpenError.TheVariants.{Read}
 use Rattle.h5w_opening.proofs.FrontLemmas.{fronted_by, fronts_give, places_behind}
 use Rattle.h5w_opening.proofs.WritingLemmas.{alike_ok, root_alike}
-use Rattle.h5w_session.specs.Sessions.{Session}
-use Rattle.h5w_session_open.specs.declared.index.NoIndex.{NoIndex}
-use Rattle.h5w_session_open.specs.declared.index.NoIndex.TheVariants.{Unnamed, Empty, WrongTotals, Unordered}
-use Rattle.h5w_session_open.specs.OpenAnswers.{IsBadBlock, IsIndexOf}
-use Rattle.h5w_session_open.specs.OpenParts.{IsReadAt, IsUnread, bad_block, bad_range, no_header, opened_at, refused_part}
-use Rattle.h5w_session_open.specs.OpenRanges.{ranges_refused, refused_index}
-use Rattle.h5w_session_open.proofs.OverFile.{HasParts, same_answer}
-use Rattle.h5w_several_session_laws.specs.Laws.{PartTells}
-use Rattle.h5w_several_session_laws.specs.Sessions.{Sessions}
-use Rattle.h5w_several_session_laws.specs.Standing.{StandsAll}
-use Rattle.h5w_several_session_laws.specs.Together.{file_at}
-use Rattle.h5w_several_session_laws.specs.Valid.{names_in}
-use Rattle.h5w_several_session_laws.proofs.GiveLemmas.{standing_all}
-use Rattle.h5w_several_session_laws.proofs.SeenLemmas.{length_pieces}
-use Rattle.h5w_several_session_laws.proofs.TogetherLemmas.{all_names_laws, many_names}
+use Rattle.h5w_writer.specs.Sessions.{Session}
+use Rattle.h5w_writer_open.specs.declared.index.NoIndex.{NoIndex}
+use Rattle.h5w_writer_open.specs.declared.index.NoIndex.TheVariants.{Unnamed, Empty, WrongTotals, Unordered}
+use Rattle.h5w_writer_open.specs.OpenAnswers.{IsBadBlock, IsIndexOf}
+use Rattle.h5w_writer_open.specs.OpenParts.{IsReadAt, IsUnread, bad_block, bad_range, no_header, opened_at, refused_part}
+use Rattle.h5w_writer_open.specs.OpenRanges.{ranges_refused, refused_index}
+use Rattle.h5w_writer_open.proofs.OverFile.{HasParts, same_answer}
+use Rattle.h5w_several_writer_laws.specs.Laws.{PartTells}
+use Rattle.h5w_several_writer_laws.specs.Sessions.{Sessions}
+use Rattle.h5w_several_writer_laws.specs.Standing.{StandsAll}
+use Rattle.h5w_several_writer_laws.specs.Together.{file_at}
+use Rattle.h5w_several_writer_laws.specs.Valid.{names_in}
+use Rattle.h5w_several_writer_laws.proofs.GiveLemmas.{standing_all}
+use Rattle.h5w_several_writer_laws.proofs.SeenLemmas.{length_pieces}
+use Rattle.h5w_several_writer_laws.proofs.TogetherLemmas.{all_names_laws, many_names}
 use Rattle.h5w_several_open.specs.Beginnings.{HadFlags, taken_over, written_at, written_found}
 use Rattle.h5w_several_open.specs.Taken.{IsNotTakenBy, closed_front, no_front, unfit, unread}
 use Rattle.h5w_several_open.specs.declared.beginning.Beginning.TheVariants as beginnings
 use Rattle.h5w_several_open.proofs.AloneLemmas.{WrittenAt, behind_at, found_at, with_root, written_at_tells}
 use Rattle.h5w_several_open.proofs.TakeAnswers.{super_written, written_tells}
-use Rattle.h5w_reopening.proofs.SinceLemmas.{IsWritten, onward}
+use Rattle.h5w_reopening_laws.proofs.SinceLemmas.{IsWritten, onward}
 use Rattle.h5w_takeover_laws.specs.Refused.{IsBegunFile, IsLeftOpen}
 use Rattle.h5w_takeover_laws.specs.Several.{NeverRefusedAll}
 use Rattle.h5w_takeover_laws.proofs.AnewLemmas.{seen_image}
-use Rattle.h5w_session_open.proofs.LeftLemmas.{never_unordered, never_wrong, no_bad, no_range}
+use Rattle.h5w_writer_open.proofs.LeftLemmas.{never_unordered, never_wrong, no_bad, no_range}
 use Rattle.h5w_takeover_laws.proofs.RefusedLemmas.{begun_parts, finds, found_written, unrefused_here}
 
 -- ---- One dataset

@@ -2,16 +2,16 @@
 use Rattle.std.proofs.Common.{◌≡◌, ◌≢◌, ℕ, ◌+◌, ◌^◌, ◌≤◌, List, [], ◌∷◌, length, length-append, refl, ap, sym, ◌∙◌, subst, inl, inr, arith}
 use Rattle.h5w_model.specs.Logs.{Log, hist}
 use Rattle.h5w_model.specs.declared.piece.Write.{Write}
-use Rattle.h5w_steps.specs.Logs.{image_now}
-use Rattle.h5w_steps.specs.Moments.{Moment, Represents}
+use Rattle.h5w_step_laws.specs.Logs.{image_now}
+use Rattle.h5w_step_laws.specs.Moments.{Moment, Represents}
 use Rattle.h5w_header_laws.specs.Files.{chunk_0}
 use Rattle.h5w_creation_laws.specs.CreatedFiles.{CreatedFile, created_blocks, created_writes}
-use Rattle.h5w_session.specs.Openings.{IsOver}
-use Rattle.h5w_session.specs.Sessions.{Session}
-use Rattle.h5w_session.specs.Stands.{Creating, Running}
-use Rattle.h5w_session.proofs.PartLemmas.{part_laws}
-use Rattle.h5w_session.proofs.PastLemmas.{one_each}
-use Rattle.h5w_session_open.specs.OpenAnswers.{session_over}
+use Rattle.h5w_writer.specs.Openings.{IsOver}
+use Rattle.h5w_writer.specs.Sessions.{Session}
+use Rattle.h5w_writer.specs.Stands.{Creating, Running}
+use Rattle.h5w_writer.proofs.PartLemmas.{part_laws}
+use Rattle.h5w_writer.proofs.PastLemmas.{one_each}
+use Rattle.h5w_writer_open.specs.OpenAnswers.{session_over}
 use Rattle.h5w_several_open.specs.Beginnings.{IsBegunOver, taken_over}
 use Rattle.h5w_several_open.proofs.BeginLemmas.{over_by}
 use Rattle.h5w_takeover_laws.specs.Restarts.{Carries, IsCarried, taken_log}

@@ -15,44 +15,44 @@ use Rattle.h5w_model.specs.Tables.{Shows, format_limits, limit_of, needed}
 use Rattle.h5w_model.specs.declared.root.Super.{Super}
 use Rattle.h5w_model.specs.declared.refusal.ReadError.TheVariants as read_errors
 use Rattle.h5w_laws.proofs.ResultLemmas.{then_ok}
-use Rattle.h5w_visits.proofs.HeaderLaws.{DatasetParts, RootParts, dataset_parts, root_parts}
-use Rattle.h5w_steps.specs.Moments.{Moment, Represents, reading_of}
-use Rattle.h5w_steps.proofs.FoundLemmas.{moment_shows, opens}
-use Rattle.h5w_steps.proofs.MomentLemmas.{root_at, super_parts}
+use Rattle.h5w_visit_laws.proofs.HeaderLaws.{DatasetParts, RootParts, dataset_parts, root_parts}
+use Rattle.h5w_step_laws.specs.Moments.{Moment, Represents, reading_of}
+use Rattle.h5w_step_laws.proofs.FoundLemmas.{moment_shows, opens}
+use Rattle.h5w_step_laws.proofs.MomentLemmas.{root_at, super_parts}
 use Rattle.h5w_header_laws.specs.Files.{LayoutInChunk0, chunk_0}
 use Rattle.h5w_header_laws.proofs.DescribedLemmas.{layout_of}
 use Rattle.h5w_creation_laws.specs.CreatedFiles.{created_blocks}
 use Rattle.h5w_index.specs.Views.{IndexView}
-use Rattle.h5w_found.specs.Walks.{dataset_header_for, root_header_for}
-use Rattle.h5w_found.proofs.RanLemmas.{same_value, step_ok}
+use Rattle.h5w_headers.specs.Walks.{dataset_header_for, root_header_for}
+use Rattle.h5w_headers.proofs.RanLemmas.{same_value, step_ok}
 use Rattle.h5w_opening.specs.Errors.{refusal_of}
 use Rattle.h5w_opening.specs.Openings.{DatasetHeaderFields, Opened, chunk_0_len, dataset_found, in_chunk_0, is_written, known, most_chunk_bytes, place_found, refused_dataset, super_by, written_super}
 use Rattle.h5w_opening.specs.declared.error.OpenError.{OpenError}
 use Rattle.h5w_opening.specs.declared.error.OpenError.TheVariants.{ChunkBytes, Cut, Flags, Layout, NoColumns, Read, Version}
 use Rattle.h5w_opening.proofs.FoundParts.{header_found_by}
 use Rattle.h5w_opening.proofs.WritingLemmas.{alike_ok, dataset_alike, root_alike}
-use Rattle.h5w_session.specs.Past.{HasOpened, IsNew}
-use Rattle.h5w_session.specs.Sessions.{Session}
-use Rattle.h5w_session.specs.Stands.{Stands}
-use Rattle.h5w_session.proofs.LawLemmas.{standing_laws}
-use Rattle.h5w_session.proofs.PastLemmas.{some_blocks}
-use Rattle.h5w_session_open.specs.declared.index.NoIndex.{NoIndex}
-use Rattle.h5w_session_open.specs.declared.index.NoIndex.TheVariants.{Unnamed, Empty, WrongTotals, Unordered}
-use Rattle.h5w_session_open.specs.OpenAnswers.{IfRefusal, IsIndexOf}
-use Rattle.h5w_session_open.specs.OpenParts.{opened_at}
-use Rattle.h5w_session_open.specs.OpenRanges.{ranges_refused, refused_index}
-use Rattle.h5w_session_open.proofs.LeftLemmas.{never_unordered, never_wrong, no_bad, no_range}
-use Rattle.h5w_session_open.proofs.OverFile.{HasParts, checked, dataset_same, has_parts, header_same, place_same, same_answer, super_same}
-use Rattle.h5w_session_open.proofs.SessionOver.{in_chunk}
+use Rattle.h5w_writer.specs.Past.{HasOpened, IsNew}
+use Rattle.h5w_writer.specs.Sessions.{Session}
+use Rattle.h5w_writer.specs.Stands.{Stands}
+use Rattle.h5w_writer.proofs.LawLemmas.{standing_laws}
+use Rattle.h5w_writer.proofs.PastLemmas.{some_blocks}
+use Rattle.h5w_writer_open.specs.declared.index.NoIndex.{NoIndex}
+use Rattle.h5w_writer_open.specs.declared.index.NoIndex.TheVariants.{Unnamed, Empty, WrongTotals, Unordered}
+use Rattle.h5w_writer_open.specs.OpenAnswers.{IfRefusal, IsIndexOf}
+use Rattle.h5w_writer_open.specs.OpenParts.{opened_at}
+use Rattle.h5w_writer_open.specs.OpenRanges.{ranges_refused, refused_index}
+use Rattle.h5w_writer_open.proofs.LeftLemmas.{never_unordered, never_wrong, no_bad, no_range}
+use Rattle.h5w_writer_open.proofs.OverFile.{HasParts, checked, dataset_same, has_parts, header_same, place_same, same_answer, super_same}
+use Rattle.h5w_writer_open.proofs.SessionOver.{in_chunk}
 use Rattle.h5w_writable_laws.specs.Writable.{CanBeWritten}
 use Rattle.h5w_several_open.specs.Beginnings.{HadFlags, IsNotBegun, found_by, is_damaged, is_refused, not_found, taken_over, written_at, written_found}
 use Rattle.h5w_several_open.specs.declared.beginning.Beginning.{Beginning}
 use Rattle.h5w_several_open.specs.declared.beginning.Beginning.TheVariants as beginnings
 use Rattle.h5w_several_open.proofs.AloneLemmas.{with_root, written_at_tells}
-use Rattle.h5w_reopening.proofs.SinceLemmas.{IsAt, IsWritten, file_at, onward, written_at as opened_written}
+use Rattle.h5w_reopening_laws.proofs.SinceLemmas.{IsAt, IsWritten, file_at, onward, written_at as opened_written}
 use Rattle.h5w_several_open.proofs.BeginningLemmas.{was_opened}
-use Rattle.h5w_reopening.proofs.StopLemmas.{opened_is_writable, reopens}
-use Rattle.h5w_reopening.proofs.UnrefusedLemmas.{dataset_taken}
+use Rattle.h5w_reopening_laws.proofs.StopLemmas.{opened_is_writable, reopens}
+use Rattle.h5w_reopening_laws.proofs.UnrefusedLemmas.{dataset_taken}
 use Rattle.h5w_takeover_laws.specs.Refused.{AnswersSession, BegunReopens, IsBegunFile, IsLeftOpen, NeverRefused, TakenIsBegun}
 
 -- ---- What was found

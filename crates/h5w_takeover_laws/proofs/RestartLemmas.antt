@@ -8,30 +8,30 @@ use Rattle.h5w_model.specs.Prefixed.{ReadsNow}
 use Rattle.h5w_model.specs.Several.{settled_log}
 use Rattle.h5w_model.specs.declared.cell.Key.{Key}
 use Rattle.h5w_model.specs.declared.piece.Write.{Write}
-use Rattle.h5w_steps.specs.Logs.{Goes, image_now}
-use Rattle.h5w_steps.specs.Moments.{Moment, Represents, reading_of}
-use Rattle.h5w_steps.proofs.FoundLemmas.{moment_shows}
-use Rattle.h5w_steps.proofs.GoesLemmas.{image_last, past_now, reads_now}
-use Rattle.h5w_steps.proofs.MomentLemmas.{few}
-use Rattle.h5w_steps.proofs.SessionLaws.{goes_runs}
+use Rattle.h5w_step_laws.specs.Logs.{Goes, image_now}
+use Rattle.h5w_step_laws.specs.Moments.{Moment, Represents, reading_of}
+use Rattle.h5w_step_laws.proofs.FoundLemmas.{moment_shows}
+use Rattle.h5w_step_laws.proofs.GoesLemmas.{image_last, past_now, reads_now}
+use Rattle.h5w_step_laws.proofs.MomentLemmas.{few}
+use Rattle.h5w_step_laws.proofs.SessionLaws.{goes_runs}
 use Rattle.h5w_chunks.specs.declared.grid.ChunkPlace.{ChunkPlace}
-use Rattle.h5w_visits.specs.Needed.{AreFew}
+use Rattle.h5w_visit_laws.specs.Needed.{AreFew}
 use Rattle.h5w_flush_laws.specs.Flushes.{IsBegun, Rests}
 use Rattle.h5w_flush_laws.specs.Knowledge.{KnownHeld}
 use Rattle.h5w_index.specs.Views.{address_in}
 use Rattle.h5w_index.proofs.MarkLemmas.{mark_laws}
 use Rattle.h5w_several_laws.proofs.SettledLemmas.{settled_laws, settled_pieces}
 use Rattle.h5w_several_laws.proofs.TakeLemmas.{takes_over}
-use Rattle.h5w_session.specs.Early.{HasEarly}
-use Rattle.h5w_session.specs.Openings.{IsOver}
-use Rattle.h5w_session.specs.PartLaws.{RunsAs}
-use Rattle.h5w_session.specs.Past.{Past}
-use Rattle.h5w_session.specs.Sessions.{Session, rows_of, with_rows}
-use Rattle.h5w_session.specs.Stands.{Running}
-use Rattle.h5w_session.proofs.CreatingLemmas.{no_cells}
-use Rattle.h5w_session.proofs.EarlyLemmas.{nothing_early}
-use Rattle.h5w_session.proofs.PartLemmas.{part_laws}
-use Rattle.h5w_session.proofs.StandLemmas.{goes_rows}
+use Rattle.h5w_writer.specs.Early.{HasEarly}
+use Rattle.h5w_writer.specs.Openings.{IsOver}
+use Rattle.h5w_writer.specs.PartLaws.{RunsAs}
+use Rattle.h5w_writer.specs.Past.{Past}
+use Rattle.h5w_writer.specs.Sessions.{Session, rows_of, with_rows}
+use Rattle.h5w_writer.specs.Stands.{Running}
+use Rattle.h5w_writer.proofs.CreatingLemmas.{no_cells}
+use Rattle.h5w_writer.proofs.EarlyLemmas.{nothing_early}
+use Rattle.h5w_writer.proofs.PartLemmas.{part_laws}
+use Rattle.h5w_writer.proofs.StandLemmas.{goes_rows}
 use Rattle.h5w_takeover_laws.specs.Restarts.{IsTakenAs, TakenRuns, taken_log}
 
 -- ---- The log of its own

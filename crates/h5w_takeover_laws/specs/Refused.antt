@@ -8,10 +8,10 @@ use Rattle.h5w_model.specs.declared.root.Super.{Super}
 use Rattle.h5w_opening.specs.Errors.{refusal_of}
 use Rattle.h5w_opening.specs.Openings.{Opened, refused_dataset}
 use Rattle.h5w_opening.specs.declared.error.OpenError.{OpenError}
-use Rattle.h5w_reopening.specs.Reopens.{IsCleared, Reopens}
-use Rattle.h5w_session.specs.Past.{HasOpened}
-use Rattle.h5w_session.specs.Sessions.{Session}
-use Rattle.h5w_session.specs.Stands.{Stands}
+use Rattle.h5w_reopening_laws.specs.Reopens.{IsCleared, Reopens}
+use Rattle.h5w_writer.specs.Past.{HasOpened}
+use Rattle.h5w_writer.specs.Sessions.{Session}
+use Rattle.h5w_writer.specs.Stands.{Stands}
 use Rattle.h5w_several_open.specs.Beginnings.{HadFlags, IsBeginAnswer, IsBegunOver, IsNotBegun, found_by, taken_over}
 use Rattle.h5w_several_open.specs.declared.beginning.Beginning.{Beginning}
 

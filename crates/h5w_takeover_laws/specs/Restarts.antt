@@ -3,14 +3,14 @@ use Rattle.std.specs.Prelude.{◌≡◌, ℕ, ◌^◌, ◌≤◌, List, [], leng
 use Rattle.h5w_model.specs.Findings.{Used}
 use Rattle.h5w_model.specs.Logs.{Log, appended, flushed, hist}
 use Rattle.h5w_model.specs.Several.{settled_log}
-use Rattle.h5w_steps.specs.Logs.{Goes, image_now}
-use Rattle.h5w_steps.specs.Moments.{Moment, Represents}
+use Rattle.h5w_step_laws.specs.Logs.{Goes, image_now}
+use Rattle.h5w_step_laws.specs.Moments.{Moment, Represents}
 use Rattle.h5w_flush_laws.specs.Flushes.{IsBegun, Rests}
 use Rattle.h5w_index.specs.Views.{address_in}
-use Rattle.h5w_session.specs.Openings.{IsOver, opened_log}
-use Rattle.h5w_session.specs.PartLaws.{RunsAs}
-use Rattle.h5w_session.specs.Sessions.{Session}
-use Rattle.h5w_session.specs.Stands.{Stands}
+use Rattle.h5w_writer.specs.Openings.{IsOver, opened_log}
+use Rattle.h5w_writer.specs.PartLaws.{RunsAs}
+use Rattle.h5w_writer.specs.Sessions.{Session}
+use Rattle.h5w_writer.specs.Stands.{Stands}
 use Rattle.h5w_several_open.specs.Beginnings.{IsBegunOver, taken_over}
 
 -- the log of a session that takes over: it begins with the image and the flushed rows of another, and nothing happened to it yet

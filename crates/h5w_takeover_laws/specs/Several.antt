@@ -4,10 +4,10 @@ use Rattle.std.specs.List.{AllByRecursion}
 use Rattle.h5w_model.specs.Logs.{first_rows, flushed_at}
 use Rattle.h5w_model.specs.Several.{Begun, FileLog, log_of, shown_in}
 use Rattle.h5w_opening.specs.declared.error.OpenError.{OpenError}
-use Rattle.h5w_several_session_laws.specs.Sessions.{AreSessions, Sessions}
-use Rattle.h5w_several_session_laws.specs.Standing.{StandsAll}
-use Rattle.h5w_several_session_laws.specs.Together.{file_at}
-use Rattle.h5w_several_session_laws.specs.Valid.{names_in}
+use Rattle.h5w_several_writer_laws.specs.Sessions.{AreSessions, Sessions}
+use Rattle.h5w_several_writer_laws.specs.Standing.{StandsAll}
+use Rattle.h5w_several_writer_laws.specs.Together.{file_at}
+use Rattle.h5w_several_writer_laws.specs.Valid.{names_in}
 use Rattle.h5w_several_open.specs.Stands.{opened_file}
 use Rattle.h5w_several_open.specs.Taken.{HasTakenAll, IsNotTakenBy, IsTakenAll}
 use Rattle.h5w_takeover_laws.specs.Refused.{IsBegunFile, IsLeftOpen}

@@ -15,15 +15,15 @@ use Rattle.h5w_model.specs.declared.cell.Key.{Key}
 use Rattle.h5w_model.specs.declared.piece.Write.{Write}
 use Rattle.h5w_model.specs.declared.cell.IndexKind.TheVariants.{Tree as a_tree}
 use Rattle.h5w_model.proofs.ImageLemmas.{image-grows, range-image_missed}
-use Rattle.h5w_visits.specs.Ranges.{Among, AllAmong, AllEndBy, Disjoint}
-use Rattle.h5w_visits.proofs.RangeLemmas.{among_left, among_right, among_split}
+use Rattle.h5w_visit_laws.specs.Ranges.{Among, AllAmong, AllEndBy, Disjoint}
+use Rattle.h5w_visit_laws.proofs.RangeLemmas.{among_left, among_right, among_split}
 use Rattle.h5w_space.specs.Space.{Space}
 use Rattle.h5w_cache.specs.declared.moves.Move.{Move}
-use Rattle.h5w_steps.specs.Moments.{Moment, all_used}
-use Rattle.h5w_steps.specs.Steps.{LiesIn}
-use Rattle.h5w_steps.specs.Counts.{count_at}
-use Rattle.h5w_steps.proofs.MomentLemmas.{in_fixed, in_behind}
-use Rattle.h5w_steps.proofs.PartLemmas.{count_joined}
+use Rattle.h5w_step_laws.specs.Moments.{Moment, all_used}
+use Rattle.h5w_step_laws.specs.Steps.{LiesIn}
+use Rattle.h5w_step_laws.specs.Counts.{count_at}
+use Rattle.h5w_step_laws.proofs.MomentLemmas.{in_fixed, in_behind}
+use Rattle.h5w_step_laws.proofs.PartLemmas.{count_joined}
 use Rattle.h5w_flush_laws.specs.Spaces.{Taken, extent_of}
 use Rattle.h5w_flush_laws.specs.Knowledge.{IsAsked, Knows}
 use Rattle.h5w_flush_laws.specs.Parts.{AllUnseen, AreEnded, EachSays, IndexFlushed, Parts, SaysInPlace, block_ranges, block_writes, committed}

@@ -6,14 +6,14 @@ use Rattle.h5w_model.specs.Numbers.{undefined}
 use Rattle.h5w_model.specs.Findings.{Used, chunk_bytes}
 use Rattle.h5w_model.specs.declared.cell.Key.{Key}
 use Rattle.h5w_model.specs.declared.piece.Write.{Write}
-use Rattle.h5w_visits.specs.Ranges.{Among, AreApart, Disjoint, block_at}
-use Rattle.h5w_visits.proofs.RangeLemmas.{among_left, among_right, among_split}
+use Rattle.h5w_visit_laws.specs.Ranges.{Among, AreApart, Disjoint, block_at}
+use Rattle.h5w_visit_laws.proofs.RangeLemmas.{among_left, among_right, among_split}
 use Rattle.h5w_space.specs.Space.{Space}
 use Rattle.h5w_cache.specs.declared.moves.Move.{Move}
-use Rattle.h5w_steps.specs.Moments.{Moment}
-use Rattle.h5w_steps.specs.Counts.{count_at}
-use Rattle.h5w_steps.proofs.MomentLemmas.{in_behind}
-use Rattle.h5w_steps.proofs.PartLemmas.{apart_sym, at_most_one, counted_one, disjoint_right, disjoint_some, none_at}
+use Rattle.h5w_step_laws.specs.Moments.{Moment}
+use Rattle.h5w_step_laws.specs.Counts.{count_at}
+use Rattle.h5w_step_laws.proofs.MomentLemmas.{in_behind}
+use Rattle.h5w_step_laws.proofs.PartLemmas.{apart_sym, at_most_one, counted_one, disjoint_right, disjoint_some, none_at}
 use Rattle.h5w_flush_laws.specs.Spaces.{IsLeftBy, Taken, extent_of}
 use Rattle.h5w_flush_laws.specs.Knowledge.{Knows}
 use Rattle.h5w_flush_laws.specs.Chunks.{AreChunks}

@@ -7,14 +7,14 @@ use Rattle.h5w_model.specs.Trees.{bthd_at, bthd_bytes, bthd_len, node_size}
 use Rattle.h5w_model.specs.Findings.{Used, chunk_bytes}
 use Rattle.h5w_model.specs.declared.piece.Write.{Write}
 use Rattle.h5w_model.proofs.ImageLemmas.{At-image_missed}
-use Rattle.h5w_visits.specs.Ranges.{Among}
+use Rattle.h5w_visit_laws.specs.Ranges.{Among}
 use Rattle.h5w_space.specs.Space.{Space}
 use Rattle.h5w_cache.specs.declared.moves.Move.{Move}
 use Rattle.h5w_chunks.specs.declared.grid.ChunkPlace.{ChunkPlace}
 use Rattle.h5w_header_laws.specs.Files.{commit_at}
-use Rattle.h5w_steps.specs.Moments.{Moment, all_used}
-use Rattle.h5w_steps.specs.Logs.{image_now}
-use Rattle.h5w_steps.proofs.MomentLemmas.{in_behind, in_fixed}
+use Rattle.h5w_step_laws.specs.Moments.{Moment, all_used}
+use Rattle.h5w_step_laws.specs.Logs.{image_now}
+use Rattle.h5w_step_laws.proofs.MomentLemmas.{in_behind, in_fixed}
 use Rattle.h5w_flush_laws.specs.Knowledge.{HeldMissed}
 use Rattle.h5w_flush_laws.specs.Spaces.{AllLive}
 use Rattle.h5w_flush_laws.specs.Parts.{IsFlush, Parts, block_writes, flushed_to, pieces_of}

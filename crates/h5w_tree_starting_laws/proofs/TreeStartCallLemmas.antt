@@ -15,7 +15,7 @@ use Rattle.h5w_cache.specs.declared.moves.Move.{Move}
 use Rattle.h5w_chunks.specs.Shares.{touched_key}
 use Rattle.h5w_chunks.specs.declared.grid.ChunkPlace.{ChunkPlace}
 use Rattle.h5w_header_laws.specs.Files.{commit_at}
-use Rattle.h5w_steps.specs.Moments.{Moment}
+use Rattle.h5w_step_laws.specs.Moments.{Moment}
 use Rattle.h5w_array_laws.specs.Among.{AreAmong}
 use Rattle.h5w_array_laws.proofs.FixedLemmas.{one_piece}
 use Rattle.h5w_flush_laws.specs.Parts.{block_writes, pieces_of}

@@ -10,14 +10,14 @@ use Rattle.h5w_model.specs.Datasets.{Described}
 use Rattle.h5w_model.specs.Findings.{Used, chunk_bytes}
 use Rattle.h5w_model.specs.declared.piece.Write.{Write}
 use Rattle.h5w_model.proofs.ImageLemmas.{Holds-front, Holds-rest}
-use Rattle.h5w_visits.specs.Ranges.{Among, AllEndBy, block_at}
-use Rattle.h5w_visits.proofs.RangeLemmas.{among_left, among_right, among_split}
+use Rattle.h5w_visit_laws.specs.Ranges.{Among, AllEndBy, block_at}
+use Rattle.h5w_visit_laws.proofs.RangeLemmas.{among_left, among_right, among_split}
 use Rattle.h5w_space.specs.Space.{Space}
 use Rattle.h5w_cache.specs.declared.moves.Move.{Move}
 use Rattle.h5w_chunks.specs.declared.grid.ChunkPlace.{ChunkPlace}
-use Rattle.h5w_steps.specs.Moments.{Moment}
-use Rattle.h5w_steps.specs.Counts.{count_at}
-use Rattle.h5w_steps.proofs.PartLemmas.{disjoint_right, count_joined}
+use Rattle.h5w_step_laws.specs.Moments.{Moment}
+use Rattle.h5w_step_laws.specs.Counts.{count_at}
+use Rattle.h5w_step_laws.proofs.PartLemmas.{disjoint_right, count_joined}
 use Rattle.h5w_flush_laws.specs.Knowledge.{HeldMissed}
 use Rattle.h5w_flush_laws.specs.Spaces.{LetGo, Taken}
 use Rattle.h5w_flush_laws.specs.Parts.{IsFlush, Parts, block_ranges, block_writes, committed, fresh_of}

@@ -8,9 +8,9 @@ use Rattle.h5w_model.specs.Findings.{chunk_bytes}
 use Rattle.h5w_model.specs.Tables.{Reading}
 use Rattle.h5w_model.specs.Prefixed.{Stays, root_address}
 use Rattle.h5w_header_laws.specs.Files.{LayoutInChunk0}
-use Rattle.h5w_steps.specs.Moments.{Moment, Represents, reading_of}
+use Rattle.h5w_step_laws.specs.Moments.{Moment, Represents, reading_of}
 use Rattle.h5w_creation_laws.specs.CreatedFiles.{CreatedFile, IsCreatable, created_moment, created_writes}
-use Rattle.h5w_found.specs.Walks.{dataset_header_for, root_header_for}
+use Rattle.h5w_headers.specs.Walks.{dataset_header_for, root_header_for}
 use Rattle.h5w_opening.specs.Openings.{Opened, is_open, looked_for, most_chunk_bytes, refused_dataset}
 
 -- Neither header has a message that asks whoever writes the file to know it; and the layout stands in chunk 0, as long as it names no index.

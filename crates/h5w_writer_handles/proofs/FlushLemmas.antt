@@ -1,8 +1,8 @@
 -- Why a flush is refused where the image does not fail.
 use Rattle.std.proofs.Common.{◌≡◌, ◌⊎◌, inl, inr}
-use Rattle.h5w_session.specs.Refusals.{IsSpace}
-use Rattle.h5w_session.specs.declared.refusal.FlushError.{FlushError}
-use Rattle.h5w_session.specs.declared.refusal.FlushError.TheVariants as flushing
+use Rattle.h5w_writer.specs.Refusals.{IsSpace}
+use Rattle.h5w_writer.specs.declared.refusal.FlushError.{FlushError}
+use Rattle.h5w_writer.specs.declared.refusal.FlushError.TheVariants as flushing
 
 pub causes_here : {Refused : Type 0} (e : FlushError) → Refused ⊎ (IsSpace e ⊎ ((e ≡ flushing.Deep) ⊎ ((e ≡ flushing.Failed) ⊎ (e ≡ flushing.OutOfMemory)))) → (e ≡ flushing.Failed → ⊥)
     → Refused ⊎ (IsSpace e ⊎ ((e ≡ flushing.Deep) ⊎ (e ≡ flushing.OutOfMemory)))

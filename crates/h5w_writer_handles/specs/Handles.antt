@@ -8,12 +8,12 @@ use Rattle.h5w_text.specs.Errors.{error_text}
 use Rattle.h5w_opening.specs.Errors.{IsOpenKind}
 use Rattle.h5w_opening.specs.declared.error.OpenError.{OpenError}
 use Rattle.h5w_opening.specs.declared.error.OpenError.TheVariants as failing
-use Rattle.h5w_session.specs.Creations.{IsCreated}
+use Rattle.h5w_writer.specs.Creations.{IsCreated}
 use Rattle.h5w_form.specs.NewFiles.{new_file}
-use Rattle.h5w_session.specs.Openings.{opened_log}
-use Rattle.h5w_session.specs.Sessions.{Session}
-use Rattle.h5w_session.specs.Stands.{Stands}
-use Rattle.h5w_session_open.specs.OpenAnswers.{HasBegun, IsOpenAnswer}
+use Rattle.h5w_writer.specs.Openings.{opened_log}
+use Rattle.h5w_writer.specs.Sessions.{Session}
+use Rattle.h5w_writer.specs.Stands.{Stands}
+use Rattle.h5w_writer_open.specs.OpenAnswers.{HasBegun, IsOpenAnswer}
 use Rattle.h5w_writer_lines.specs.Lines.{open_line}
 use Rattle.h5w_handles.specs.Codes.{busy, misuse, no_memory, told}
 use Rattle.h5w_handles.specs.Handles.{has_writer}

@@ -2,12 +2,12 @@
 use Rattle.std.specs.Prelude.{◌≡◌, ◌⊎◌, ℕ, List}
 use Rattle.h5w_opening.specs.declared.error.OpenError.{OpenError}
 use Rattle.h5w_opening.specs.declared.error.OpenError.TheVariants as opens
-use Rattle.h5w_session.specs.declared.refusal.AppendError.{AppendError}
-use Rattle.h5w_session.specs.declared.refusal.AppendError.TheVariants as appends
-use Rattle.h5w_session.specs.declared.refusal.CloseError.{CloseError}
-use Rattle.h5w_session.specs.declared.refusal.CloseError.TheVariants as closes
-use Rattle.h5w_session.specs.declared.refusal.FlushError.{FlushError}
-use Rattle.h5w_session.specs.declared.refusal.FlushError.TheVariants as flushes
+use Rattle.h5w_writer.specs.declared.refusal.AppendError.{AppendError}
+use Rattle.h5w_writer.specs.declared.refusal.AppendError.TheVariants as appends
+use Rattle.h5w_writer.specs.declared.refusal.CloseError.{CloseError}
+use Rattle.h5w_writer.specs.declared.refusal.CloseError.TheVariants as closes
+use Rattle.h5w_writer.specs.declared.refusal.FlushError.{FlushError}
+use Rattle.h5w_writer.specs.declared.refusal.FlushError.TheVariants as flushes
 use Rattle.h5w_handles.specs.Codes.{no_memory, told}
 use Rattle.h5w_handles.specs.ReaderTellings.{refusal_told}
 use Rattle.h5w_handles.specs.Texts.{laid}

@@ -4,19 +4,19 @@ use Rattle.h5w_model.specs.Logs.{Log, and_now, appends, load, plans, shows}
 use Rattle.h5w_model.specs.Superblock.{super_at, super_bytes}
 use Rattle.h5w_model.specs.declared.piece.Write.{Write}
 use Rattle.h5w_space.specs.declared.Full.{Full}
-use Rattle.h5w_session.specs.Early.{IsWithin, WrittenEarly, dirty_of}
-use Rattle.h5w_session.specs.Flushes.{SameBut}
-use Rattle.h5w_session.specs.Loads.{NoPlace}
-use Rattle.h5w_session.specs.Past.{IsNew}
-use Rattle.h5w_session.specs.Refusals.{IsDeepFor, IsFullFor, IsSpace, append_refusal, close_refusal, flush_refusal}
-use Rattle.h5w_session.specs.Sessions.{AddsValues, AfterPiece, AreReached, Session, TakesRows, closed_of, closed_root, cutting_of, rows_of, stopped_of, with_values}
-use Rattle.h5w_session.specs.Stands.{Stands}
-use Rattle.h5w_session.specs.Starts.{HasFlushed}
-use Rattle.h5w_session.specs.declared.refusal.AppendError.{AppendError}
-use Rattle.h5w_session.specs.declared.refusal.AppendError.TheVariants as appending
-use Rattle.h5w_session.specs.declared.refusal.CloseError.{CloseError}
-use Rattle.h5w_session.specs.declared.refusal.FlushError.{FlushError}
-use Rattle.h5w_session.specs.declared.refusal.FlushError.TheVariants as flushing
+use Rattle.h5w_writer.specs.Early.{IsWithin, WrittenEarly, dirty_of}
+use Rattle.h5w_writer.specs.Flushes.{SameBut}
+use Rattle.h5w_writer.specs.Loads.{NoPlace}
+use Rattle.h5w_writer.specs.Past.{IsNew}
+use Rattle.h5w_writer.specs.Refusals.{IsDeepFor, IsFullFor, IsSpace, append_refusal, close_refusal, flush_refusal}
+use Rattle.h5w_writer.specs.Sessions.{AddsValues, AfterPiece, AreReached, Session, TakesRows, closed_of, closed_root, cutting_of, rows_of, stopped_of, with_values}
+use Rattle.h5w_writer.specs.Stands.{Stands}
+use Rattle.h5w_writer.specs.Starts.{HasFlushed}
+use Rattle.h5w_writer.specs.declared.refusal.AppendError.{AppendError}
+use Rattle.h5w_writer.specs.declared.refusal.AppendError.TheVariants as appending
+use Rattle.h5w_writer.specs.declared.refusal.CloseError.{CloseError}
+use Rattle.h5w_writer.specs.declared.refusal.FlushError.{FlushError}
+use Rattle.h5w_writer.specs.declared.refusal.FlushError.TheVariants as flushing
 use Rattle.h5w_text.specs.Errors.{error_text}
 use Rattle.h5w_text.specs.declared.error.ErrorLine.TheVariants as lines
 use Rattle.h5w_writer_lines.specs.Lines.{append_line, close_line, flush_line, line_text}

@@ -9,8 +9,8 @@ use crate::options::{H5wOptions, is_budget, is_limit};
 use crate::telling::open_told;
 use h5w_handles::{H5wCode, H5wTold, Handle, Held, put_line};
 use h5w_model::OutOfMemory;
-use h5w_session::WriterCore;
-use h5w_session_open::OpenError;
+use h5w_writer::WriterCore;
+use h5w_writer_open::OpenError;
 use h5w_writer_lines::open_line;
 use std::alloc::Global;
 
@@ -67,7 +67,7 @@ fn opened(
     ensures { IsOpened bytes.now name.now limit budget result }
 {
     let size = bytes.len() as u64;
-    h5w_session_open::open(alloc, &mut Given { bytes }, size, name, limit, budget)
+    h5w_writer_open::open(alloc, &mut Given { bytes }, size, name, limit, budget)
 }
 
 /// Tells why a file is not opened, and puts its line.

@@ -4,8 +4,8 @@ ghost use Rattle.h5w_writer_lines.specs.Lines.{line_text};
 ghost use Rattle.h5w_writer_handles.specs.Tellings.{PutsLine, append_told, close_told, flush_told, open_told};
 
 use h5w_handles::{H5wCode, H5wTold, put_text, refusal_told};
-use h5w_session::{AppendError, CloseError, FlushError};
-use h5w_session_open::OpenError;
+use h5w_writer::{AppendError, CloseError, FlushError};
+use h5w_writer_open::OpenError;
 use h5w_writer_lines::{WriterLine, write_line};
 use std::alloc::Global;
 

@@ -1,6 +1,6 @@
 //! The calls of a session, with codes in place of its answers.
 ghost use Rattle.std.specs.Prelude.{◌≡◌, ◌<◌, ◌%◌, IfOk, IsFalse, IsTrue, length, map, pos};
-ghost use Rattle.h5w_session.specs.Sessions.{AreRows};
+ghost use Rattle.h5w_writer.specs.Sessions.{AreRows};
 ghost use Rattle.h5w_text.specs.Errors.{error_text};
 ghost use Rattle.h5w_text.specs.declared.error.ErrorLine.TheVariants as lines;
 ghost use Rattle.h5w_handles.specs.Codes.{no_memory, told};
@@ -12,7 +12,7 @@ use crate::room::Room;
 use crate::telling::{append_told, close_told, flush_told, refuse};
 use h5w_handles::{H5wCode, H5wPlace, H5wTold};
 use h5w_model::{OutOfMemory, Write};
-use h5w_session::WriterCore;
+use h5w_writer::WriterCore;
 use h5w_text::ErrorLine;
 use h5w_writer_lines::{WriterLine, append_line, close_line, flush_line};
 use std::alloc::Global;

@@ -1,6 +1,6 @@
 //! The calls of a writer, on a handle.
 ghost use Rattle.std.specs.Prelude.{◌≡◌, None, length, map, pos};
-ghost use Rattle.h5w_session.specs.Sessions.{rows_of};
+ghost use Rattle.h5w_writer.specs.Sessions.{rows_of};
 ghost use Rattle.h5w_handles.specs.Codes.{misuse};
 ghost use Rattle.h5w_writer_handles.specs.Handles.{OnWriter};
 ghost use Rattle.h5w_writer_handles.specs.WriterCalls.{Appended, Closed, Failed, Flushed, IsNextPiece, KeepsRetired, Written};

@@ -8,12 +8,12 @@ use Rattle.h5w_text.specs.declared.error.ErrorLine.{ErrorLine}
 use Rattle.h5w_text.specs.declared.error.ErrorLine.TheVariants as lines
 use Rattle.h5w_opening.specs.declared.error.OpenError.{OpenError}
 use Rattle.h5w_opening.specs.declared.error.OpenError.TheVariants as opens
-use Rattle.h5w_session.specs.declared.refusal.AppendError.{AppendError}
-use Rattle.h5w_session.specs.declared.refusal.AppendError.TheVariants as appends
-use Rattle.h5w_session.specs.declared.refusal.CloseError.{CloseError}
-use Rattle.h5w_session.specs.declared.refusal.CloseError.TheVariants as closes
-use Rattle.h5w_session.specs.declared.refusal.FlushError.{FlushError}
-use Rattle.h5w_session.specs.declared.refusal.FlushError.TheVariants as flushes
+use Rattle.h5w_writer.specs.declared.refusal.AppendError.{AppendError}
+use Rattle.h5w_writer.specs.declared.refusal.AppendError.TheVariants as appends
+use Rattle.h5w_writer.specs.declared.refusal.CloseError.{CloseError}
+use Rattle.h5w_writer.specs.declared.refusal.CloseError.TheVariants as closes
+use Rattle.h5w_writer.specs.declared.refusal.FlushError.{FlushError}
+use Rattle.h5w_writer.specs.declared.refusal.FlushError.TheVariants as flushes
 use Rattle.h5w_writer_lines.specs.declared.lines.WriterLine.{WriterLine}
 use Rattle.h5w_writer_lines.specs.declared.lines.WriterLine.TheVariants.{Busy, Error, Stopped}
 

@@ -3,7 +3,7 @@ ghost use Rattle.h5w_writer_lines.specs.Lines.{append_line, close_line, flush_li
 
 use h5w_model::{OutOfMemory, ReadError, Reply};
 use h5w_opening::OpenError;
-use h5w_session::{AppendError, CloseError, FlushError};
+use h5w_writer::{AppendError, CloseError, FlushError};
 use h5w_text::{ErrorLine, write_error, write_reply};
 
 /// The line of a refusal of a session's call. That the session is stopped, or has pieces that are pending, ends no command: these are replies.

@@ -3,7 +3,7 @@ use Rattle.h5w_model.specs.Programs.{eval}
 use Rattle.h5w_model.specs.Tables.{each_of, format_limits}
 use Rattle.h5w_model.specs.Findings.{Used, the_superblock, checked_part}
 use Rattle.h5w_check.specs.Roots.{parts_after}
-use Rattle.h5w_found.proofs.RanLemmas.{ran_on, ran_then_stop, step_ok, same_value}
+use Rattle.h5w_headers.proofs.RanLemmas.{ran_on, ran_then_stop, step_ok, same_value}
 use Rattle.h5w_check.proofs.datasets.Goals as goal
 
 pub returns-in_err-rows : goal.returns-in_err-rows

@@ -2,7 +2,7 @@ use Rattle.std.proofs.Common.{◌≡◌, ◌∙◌, ℕ, List, Err, rules}
 use Rattle.h5w_model.specs.Numbers.{range}
 use Rattle.h5w_model.specs.Findings.{Used, checked_super}
 use Rattle.h5w_check.specs.Verdicts.{datasets_found}
-use Rattle.h5w_found.proofs.RanLemmas.{ran_on, ran_end, ran_then_stop, step_ok, step_err}
+use Rattle.h5w_headers.proofs.RanLemmas.{ran_on, ran_end, ran_then_stop, step_ok, step_err}
 use Rattle.h5w_check.proofs.CheckLemmas.{check_parts, super_rest, verdict_rest}
 use Rattle.h5w_check.proofs.verdict_on.Goals as goal
 

@@ -1,5 +1,5 @@
 use Rattle.std.proofs.Common.{◌≡◌, length, Err, rules}
-use Rattle.h5w_session.specs.Sessions.{rows_of}
+use Rattle.h5w_writer.specs.Sessions.{rows_of}
 use Rattle.h5w_files.specs.Polls.{count_text}
 use Rattle.h5w_appending.proofs.StepLemmas.{close_half, close_none, close_whole, flush_ended, none_planned, puts_ended, ready_batch, some_planned}
 use Rattle.h5w_appending.proofs.batching.close_batch.Goals as goal

@@ -2,7 +2,7 @@ use Rattle.std.proofs.Common.{◌≡◌, ◌∙◌, ℕ, List, Ok, Err, refl, ru
 use Rattle.h5w_model.specs.Datasets.{then_also}
 use Rattle.h5w_model.specs.Findings.{index_block_visit, Used}
 use Rattle.h5w_check.specs.Blocks.{header_found}
-use Rattle.h5w_found.proofs.RanLemmas.{ran_on, ran_end, ran_refused, told_ok, step_ok, step_err}
+use Rattle.h5w_headers.proofs.RanLemmas.{ran_on, ran_end, ran_refused, told_ok, step_ok, step_err}
 use Rattle.h5w_check.proofs.ArrayLemmas.{array_there, block_rest, run_absent, run_there}
 use Rattle.h5w_check.proofs.array.array.Goals as goal
 

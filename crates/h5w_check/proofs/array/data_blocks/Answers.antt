@@ -1,6 +1,6 @@
 use Rattle.std.proofs.Common.{◌≡◌, ◌∙◌, ◌<◌, Err, length, arith, rules}
 use Rattle.h5w_model.specs.Findings.{data_block_visit}
-use Rattle.h5w_found.proofs.RanLemmas.{going_stop, going_on, step_ok, step_err}
+use Rattle.h5w_headers.proofs.RanLemmas.{going_stop, going_on, step_ok, step_err}
 use Rattle.h5w_check.proofs.ArrayLemmas.{each_next}
 use Rattle.h5w_check.proofs.array.data_blocks.Goals as goal
 

@@ -2,7 +2,7 @@ use Rattle.std.proofs.Common.{drop}
 use Rattle.h5w_model.specs.Programs.{eval}
 use Rattle.h5w_model.specs.Findings.{data_block_visit, visit_each}
 use Rattle.h5w_check.specs.Ranges.{after}
-use Rattle.h5w_found.proofs.RanLemmas.{Going}
+use Rattle.h5w_headers.proofs.RanLemmas.{Going}
 use Rattle.h5w_check.proofs.array.data_blocks.Given as goal
 
 abbrev pub invariant-loop-address : goal.invariant-loop-address

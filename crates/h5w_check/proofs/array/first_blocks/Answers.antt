@@ -2,7 +2,7 @@ use Rattle.std.proofs.Common.{◌≡◌, ◌∙◌, ◌<◌, Err, length, get_or
 use Rattle.h5w_model.specs.Arrays.{super_block_of}
 use Rattle.h5w_model.specs.Tables.{super_block_of_first}
 use Rattle.h5w_model.specs.Findings.{data_block_visit}
-use Rattle.h5w_found.proofs.RanLemmas.{going_stop, going_on, step_ok, step_err}
+use Rattle.h5w_headers.proofs.RanLemmas.{going_stop, going_on, step_ok, step_err}
 use Rattle.h5w_check.proofs.ArrayLemmas.{run, first_next}
 use Rattle.h5w_check.proofs.array.first_blocks.Goals as goal
 

@@ -2,7 +2,7 @@ use Rattle.std.proofs.Common.{drop}
 use Rattle.h5w_model.specs.Programs.{eval}
 use Rattle.h5w_model.specs.Findings.{first_visits}
 use Rattle.h5w_check.specs.Ranges.{after}
-use Rattle.h5w_found.proofs.RanLemmas.{Going}
+use Rattle.h5w_headers.proofs.RanLemmas.{Going}
 use Rattle.h5w_check.proofs.array.first_blocks.Given as goal
 
 abbrev pub invariant-loop-i : goal.invariant-loop-i

@@ -3,7 +3,7 @@ use Rattle.h5w_model.specs.Datasets.{then_also}
 use Rattle.h5w_model.specs.Findings.{Used, Finding, first_visits, second_visits}
 use Rattle.h5w_ea.specs.Fields.{eaib_of}
 use Rattle.h5w_check.specs.Blocks.{index_found}
-use Rattle.h5w_found.proofs.RanLemmas.{ran_on, ran_then_stop, step_ok, step_err}
+use Rattle.h5w_headers.proofs.RanLemmas.{ran_on, ran_then_stop, step_ok, step_err}
 use Rattle.h5w_check.proofs.ArrayLemmas.{run, index_there, index_rest}
 use Rattle.h5w_check.proofs.array.index_block.Goals as goal
 

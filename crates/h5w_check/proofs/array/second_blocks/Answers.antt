@@ -1,5 +1,5 @@
 use Rattle.std.proofs.Common.{◌≡◌, ◌∙◌, ◌<◌, Ok, Err, length, refl, arith, rules}
-use Rattle.h5w_found.proofs.RanLemmas.{going_stop, going_on, going_end, told_ok, step_ok, step_err}
+use Rattle.h5w_headers.proofs.RanLemmas.{going_stop, going_on, going_end, told_ok, step_ok, step_err}
 use Rattle.h5w_check.proofs.ArrayLemmas.{second_next, second_past}
 use Rattle.h5w_check.proofs.array.second_blocks.Goals as goal
 

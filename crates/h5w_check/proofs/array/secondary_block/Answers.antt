@@ -2,7 +2,7 @@ use Rattle.std.proofs.Common.{◌≡◌, ◌∙◌, ℕ, List, Err, rules}
 use Rattle.h5w_model.specs.Arrays.{super_block_of}
 use Rattle.h5w_model.specs.Findings.{Used}
 use Rattle.h5w_check.specs.Blocks.{secondary_found}
-use Rattle.h5w_found.proofs.RanLemmas.{ran_on, ran_refused, step_ok, step_err}
+use Rattle.h5w_headers.proofs.RanLemmas.{ran_on, ran_refused, step_ok, step_err}
 use Rattle.h5w_check.proofs.ArrayLemmas.{second_there, second_rest}
 use Rattle.h5w_check.proofs.array.secondary_block.Goals as goal
 

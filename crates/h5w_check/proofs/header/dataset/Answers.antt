@@ -1,11 +1,11 @@
 use Rattle.std.proofs.Common.{◌≡◌, ◌∙◌, Ok, Err, rules}
 use Rattle.h5w_model.specs.Datasets.{Described, then_also}
 use Rattle.h5w_model.specs.Findings.{header_ranges}
-use Rattle.h5w_found.specs.Headers.{header_of}
+use Rattle.h5w_headers.specs.Headers.{header_of}
 use Rattle.h5w_check.specs.Ranges.{after}
 use Rattle.h5w_check.specs.Described.{known}
 use Rattle.h5w_dataset.specs.Described.{described_of}
-use Rattle.h5w_found.proofs.RanLemmas.{ran_stop, ran_end, ran_refused, told_seen, told_then, step_ok, step_err}
+use Rattle.h5w_headers.proofs.RanLemmas.{ran_stop, ran_end, ran_refused, told_seen, told_then, step_ok, step_err}
 use Rattle.h5w_check.proofs.HeaderLemmas.{dataset_parts, dataset_rest, dataset_found}
 use Rattle.h5w_check.proofs.header.dataset.Goals as goal
 

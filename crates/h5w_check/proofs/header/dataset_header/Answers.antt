@@ -2,10 +2,10 @@ use Rattle.std.proofs.Common.{false, Ok, Err, sym, ap}
 use Rattle.h5w_model.specs.Programs.{eval}
 use Rattle.h5w_model.specs.Datasets.{HeaderFields, refused_as}
 use Rattle.h5w_model.specs.Findings.{dataset_finding}
-use Rattle.h5w_found.specs.Walks.{dataset_header_for}
-use Rattle.h5w_found.specs.Headers.{header_of}
-use Rattle.h5w_found.proofs.ReadingLemmas.{dataset_reading}
-use Rattle.h5w_found.proofs.RanLemmas.{ran_begin}
+use Rattle.h5w_headers.specs.Walks.{dataset_header_for}
+use Rattle.h5w_headers.specs.Headers.{header_of}
+use Rattle.h5w_headers.proofs.ReadingLemmas.{dataset_reading}
+use Rattle.h5w_headers.proofs.RanLemmas.{ran_begin}
 use Rattle.h5w_check.proofs.FoundLemmas.{ran_found}
 use Rattle.h5w_check.proofs.header.dataset_header.Goals as goal
 

@@ -6,7 +6,7 @@ use Rattle.h5w_model.specs.Findings.{Used, checked_dataset, index_visit}
 use Rattle.h5w_dataset.specs.Described.{described_of}
 use Rattle.h5w_check.specs.Ranges.{after}
 use Rattle.h5w_check.specs.Roots.{dataset_after}
-use Rattle.h5w_found.proofs.RanLemmas.{ran_on, ran_end, ran_stop, ran_then_stop, told_ok, step_ok, step_err}
+use Rattle.h5w_headers.proofs.RanLemmas.{ran_on, ran_end, ran_stop, ran_then_stop, told_ok, step_ok, step_err}
 use Rattle.h5w_check.proofs.PartLemmas.{part_parts, part_rest}
 use Rattle.h5w_check.proofs.part.part.Goals as goal
 

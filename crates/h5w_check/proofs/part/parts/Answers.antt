@@ -1,6 +1,6 @@
 use Rattle.std.proofs.Common.{◌≡◌, ◌∙◌, ◌+◌, ◌<◌, ℕ, List, Ok, Err, length, drop, refl, ap, arith, rules}
 use Rattle.h5w_model.specs.Findings.{Used}
-use Rattle.h5w_found.proofs.RanLemmas.{going_from, going_stop, going_on, going_told, going_refused, going_end, told_ok, same_value, step_ok, step_err}
+use Rattle.h5w_headers.proofs.RanLemmas.{going_from, going_stop, going_on, going_told, going_refused, going_end, told_ok, same_value, step_ok, step_err}
 use Rattle.h5w_check.proofs.PartLemmas.{given, given_then, given_next, given_end}
 use Rattle.h5w_check.proofs.part.parts.Goals as goal
 

@@ -1,5 +1,5 @@
 use Rattle.std.proofs.Common.{[], drop}
-use Rattle.h5w_found.proofs.RanLemmas.{Going}
+use Rattle.h5w_headers.proofs.RanLemmas.{Going}
 use Rattle.h5w_check.proofs.PartLemmas.{given}
 use Rattle.h5w_check.proofs.part.parts.Given as goal
 

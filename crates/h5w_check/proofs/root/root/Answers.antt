@@ -1,9 +1,9 @@
 use Rattle.std.proofs.Common.{◌≡◌, ◌∙◌, ℕ, List, [], Ok, Err, rules}
 use Rattle.h5w_model.specs.Datasets.{then_also}
 use Rattle.h5w_model.specs.Findings.{checked_links, header_ranges}
-use Rattle.h5w_found.specs.Headers.{header_of}
+use Rattle.h5w_headers.specs.Headers.{header_of}
 use Rattle.h5w_check.specs.Ranges.{after}
-use Rattle.h5w_found.proofs.RanLemmas.{ran_stop, ran_end, ran_refused, told_seen, told_then, step_ok, step_err}
+use Rattle.h5w_headers.proofs.RanLemmas.{ran_stop, ran_end, ran_refused, told_seen, told_then, step_ok, step_err}
 use Rattle.h5w_check.proofs.RootLemmas.{root_parts, root_rest}
 use Rattle.h5w_check.proofs.root.root.Goals as goal
 

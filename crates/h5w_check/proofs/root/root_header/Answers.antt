@@ -2,11 +2,11 @@ use Rattle.std.proofs.Common.{false, Ok, Err, sym, ap}
 use Rattle.h5w_model.specs.Programs.{eval}
 use Rattle.h5w_model.specs.Datasets.{HeaderFields}
 use Rattle.h5w_model.specs.Findings.{found}
-use Rattle.h5w_found.specs.Walks.{root_header_for}
-use Rattle.h5w_found.specs.Headers.{header_of}
-use Rattle.h5w_found.proofs.ReadingLemmas.{root_reading}
+use Rattle.h5w_headers.specs.Walks.{root_header_for}
+use Rattle.h5w_headers.specs.Headers.{header_of}
+use Rattle.h5w_headers.proofs.ReadingLemmas.{root_reading}
 use Rattle.h5w_check.specs.Headers.{finding_for}
-use Rattle.h5w_found.proofs.RanLemmas.{ran_begin}
+use Rattle.h5w_headers.proofs.RanLemmas.{ran_begin}
 use Rattle.h5w_check.proofs.FoundLemmas.{ran_found}
 use Rattle.h5w_check.proofs.root.root_header.Goals as goal
 

@@ -9,7 +9,7 @@ use Rattle.h5w_check.specs.Ran.{Told}
 use Rattle.h5w_check.specs.declared.error.CheckError.{CheckError}
 use Rattle.h5w_model.specs.Trees.{BtinFields}
 use Rattle.h5w_check.specs.Nodes.{Spanned, add_found, all_faded, counting, ended, faded, inner_found, leaf_found}
-use Rattle.h5w_found.proofs.RanLemmas.{ran_end, ran_refused, told_seen, step_ok, step_err}
+use Rattle.h5w_headers.proofs.RanLemmas.{ran_end, ran_refused, told_seen, step_ok, step_err}
 use Rattle.h5w_check.proofs.KnownLemmas.{coming_stop, coming_on, coming_told, coming_refused, visits_ran, visits_next, visits_next_stop, visits_end}
 use Rattle.h5w_check.proofs.FallenLemmas.{child_step, child_err, end_faded, all_faded_err}
 use Rattle.h5w_check.proofs.TreeLemmas.{child_rest, head_of, held_length, child_fits, node_leaf_at, node_inner, inner_rest}

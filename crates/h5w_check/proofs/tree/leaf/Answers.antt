@@ -1,7 +1,7 @@
 use Rattle.std.proofs.Common.{[], true}
 use Rattle.h5w_check.specs.Spans.{span_of}
 use Rattle.h5w_check.specs.Nodes.{Spanned, ended, records_after}
-use Rattle.h5w_found.proofs.RanLemmas.{told_along, told_then}
+use Rattle.h5w_headers.proofs.RanLemmas.{told_along, told_then}
 use Rattle.h5w_check.proofs.TreeLemmas.{leaf_ok}
 use Rattle.h5w_check.proofs.tree.leaf.Goals as goal
 

@@ -1,5 +1,5 @@
 use Rattle.std.proofs.Common.{◌≡◌, ◌∙◌, ◌<◌, length, Err, arith, rules}
-use Rattle.h5w_found.proofs.RanLemmas.{told_stop, step_ok, step_err}
+use Rattle.h5w_headers.proofs.RanLemmas.{told_stop, step_ok, step_err}
 use Rattle.h5w_check.proofs.TreeLemmas.{held_next, joined_fits}
 use Rattle.h5w_check.proofs.tree.put_records.Goals as goal
 

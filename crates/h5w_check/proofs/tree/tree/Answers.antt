@@ -7,7 +7,7 @@ use Rattle.h5w_bt.specs.Fields.{bthd_of}
 use Rattle.h5w_check.specs.Ran.{Told}
 use Rattle.h5w_check.specs.Nodes.{Spanned, root_found, under_after}
 use Rattle.h5w_check.specs.declared.error.CheckError.{CheckError}
-use Rattle.h5w_found.proofs.RanLemmas.{ran_end, ran_on, ran_refused, ran_then_stop, told_ok, step_ok, step_err}
+use Rattle.h5w_headers.proofs.RanLemmas.{ran_end, ran_on, ran_refused, ran_then_stop, told_ok, step_ok, step_err}
 use Rattle.h5w_check.proofs.ArrayLemmas.{run_absent, run_there}
 use Rattle.h5w_check.proofs.TreeLemmas.{tree_there, tree_node, root_rest}
 use Rattle.h5w_check.proofs.FallenLemmas.{ran_root}

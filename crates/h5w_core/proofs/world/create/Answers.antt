@@ -1,5 +1,5 @@
 use Rattle.std.proofs.Common.{ℕ, ap, length, arith, subst}
-use Rattle.h5w_session.specs.Sessions.{Session}
+use Rattle.h5w_writer.specs.Sessions.{Session}
 use Rattle.h5w_core.specs.Creation.{Creates}
 use Rattle.h5w_core.proofs.CreationLemmas.{begins}
 use Rattle.h5w_core.proofs.world.create.Goals as goal

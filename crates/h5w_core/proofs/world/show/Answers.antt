@@ -1,7 +1,7 @@
 use Rattle.std.proofs.Common.{drop}
-use Rattle.h5w_session.proofs.LawLemmas.{room_stays}
+use Rattle.h5w_writer.proofs.LawLemmas.{room_stays}
 use Rattle.h5w_steady.specs.Steady.{steady}
-use Rattle.h5w_session.proofs.StateLemmas.{oldest}
+use Rattle.h5w_writer.proofs.StateLemmas.{oldest}
 use Rattle.h5w_core.proofs.world.show.Goals as goal
 
 pub returns-clause-room : goal.returns-clause-room

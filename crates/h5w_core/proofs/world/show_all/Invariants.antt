@@ -1,6 +1,6 @@
 use Rattle.std.proofs.Common.{◌≡◌, length}
 use Rattle.h5w_options.specs.declared.options.Options.{Options}
-use Rattle.h5w_session.specs.Room.{HasRoomFor}
+use Rattle.h5w_writer.specs.Room.{HasRoomFor}
 use Rattle.h5w_steady.specs.Steady.{steady}
 use Rattle.h5w_core.specs.Creation.{Creates}
 use Rattle.h5w_core.proofs.world.show_all.Given as goal

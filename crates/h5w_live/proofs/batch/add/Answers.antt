@@ -1,6 +1,6 @@
 use Rattle.std.proofs.Common.{ap, arith, subst, sym}
-use Rattle.h5w_session.specs.Sessions.{Session}
-use Rattle.h5w_session.specs.Stands.{Stands}
+use Rattle.h5w_writer.specs.Sessions.{Session}
+use Rattle.h5w_writer.specs.Stands.{Stands}
 use Rattle.h5w_live.proofs.BatchLemmas.{has_appended, taken_settled, taken_writes, writes_still}
 use Rattle.h5w_live.proofs.batch.add.Goals as goal
 

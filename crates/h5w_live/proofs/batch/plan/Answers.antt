@@ -1,7 +1,7 @@
 use Rattle.std.proofs.Common.{rules, ◌≡◌, ◌∙◌, Err, ap, subst}
 use Rattle.h5w_space.specs.declared.Full.{Full}
-use Rattle.h5w_session.specs.Loads.{NoPlace}
-use Rattle.h5w_session.specs.Refusals.{IsFullFor, flush_refusal}
+use Rattle.h5w_writer.specs.Loads.{NoPlace}
+use Rattle.h5w_writer.specs.Refusals.{IsFullFor, flush_refusal}
 use Rattle.h5w_live.proofs.BatchLemmas.{no_other}
 use Rattle.h5w_live.proofs.batch.plan.Goals as goal
 

@@ -1,6 +1,6 @@
 use Rattle.std.proofs.Common.{◌≡◌, Err, sym, ap, ◌∙◌}
 use Rattle.std.specs.Prelude.{length}
-use Rattle.h5w_session.specs.Sessions.{Session}
+use Rattle.h5w_writer.specs.Sessions.{Session}
 use Rattle.h5w_live.specs.declared.writing.Halt.TheVariants as halts
 use Rattle.h5w_live.proofs.BatchLemmas.{added_writes, flush_taken, lacks_place, planned_writes, put_flushed, refusal_for, waits_some, writes_still}
 use Rattle.h5w_live.proofs.batch.put.Goals as goal

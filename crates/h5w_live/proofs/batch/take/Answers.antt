@@ -1,6 +1,6 @@
 use Rattle.std.proofs.Common.{◌∙◌, ap, Err}
-use Rattle.h5w_session.specs.declared.refusal.AppendError.TheVariants as appending
-use Rattle.h5w_session.specs.Refusals.{append_refusal}
+use Rattle.h5w_writer.specs.declared.refusal.AppendError.TheVariants as appending
+use Rattle.h5w_writer.specs.Refusals.{append_refusal}
 use Rattle.h5w_live.proofs.BatchLemmas.{accepted_none, not_busy, not_stopped, refused_as}
 use Rattle.h5w_live.proofs.batch.take.Goals as goal
 

@@ -1,10 +1,10 @@
 use Rattle.std.proofs.Common.{drop, length, ap, ◌∙◌, arith}
-use Rattle.h5w_session.specs.Sessions.{Session}
+use Rattle.h5w_writer.specs.Sessions.{Session}
 use Rattle.h5w_shared.specs.Seats.{SeatView}
-use Rattle.h5w_session.proofs.StateLemmas.{oldest}
+use Rattle.h5w_writer.proofs.StateLemmas.{oldest}
 use Rattle.h5w_live.proofs.WritingLemmas.{shows_next, stands_done, writes_failed}
 use Rattle.h5w_live.proofs.writing.show.Goals as goal
-use Rattle.h5w_session_laws.proofs.PieceLemmas.{after_pending, no_piece}
+use Rattle.h5w_writer_laws.proofs.PieceLemmas.{after_pending, no_piece}
 
 pub returns-in-Err-clause-left : goal.returns-in-Err-clause-left
 returns-in-Err-clause-left g c = λ f w.

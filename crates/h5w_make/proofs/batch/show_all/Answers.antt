@@ -1,10 +1,10 @@
 use Rattle.std.proofs.Common.{drop, length, ap, arith}
-use Rattle.h5w_session.proofs.LawLemmas.{room_stays}
+use Rattle.h5w_writer.proofs.LawLemmas.{room_stays}
 use Rattle.h5w_steady.specs.Steady.{steady}
-use Rattle.h5w_session.proofs.StateLemmas.{oldest}
+use Rattle.h5w_writer.proofs.StateLemmas.{oldest}
 use Rattle.h5w_make.proofs.BatchLemmas.{shows_done, shows_first, shows_next, stands_done}
 use Rattle.h5w_make.proofs.batch.show_all.Goals as goal
-use Rattle.h5w_session_laws.proofs.PieceLemmas.{after_pending, no_piece}
+use Rattle.h5w_writer_laws.proofs.PieceLemmas.{after_pending, no_piece}
 
 pub loop-w-init : goal.loop-w-init
 loop-w-init c = shows_first c.args.session.now c.args.image.now c.requires.some c.requires.room

@@ -1,5 +1,5 @@
 use Rattle.std.specs.Prelude.{Result, Ok, Err, OnOk}
-use Rattle.h5w_session.specs.Sessions.{Session}
+use Rattle.h5w_writer.specs.Sessions.{Session}
 use Rattle.h5w_make.specs.Commands.{batches}
 use Rattle.h5w_make.specs.States.{IsClosed}
 use Rattle.h5w_make.proofs.batch.write_into.Goals as goal

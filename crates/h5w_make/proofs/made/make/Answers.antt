@@ -1,5 +1,5 @@
 use Rattle.std.proofs.Common.{rules, ◌≡◌, ◌∙◌, ◌<◌, ◌^◌, List, ℕ, map, pos, sum, sym, subst, arith, length}
-use Rattle.h5w_session.proofs.StateLemmas.{some_is}
+use Rattle.h5w_writer.proofs.StateLemmas.{some_is}
 use Rattle.h5w_make.specs.Commands.{batches}
 use Rattle.h5w_make.specs.Generators.{numbers}
 use Rattle.h5w_make.specs.Readings.{IsReadable}

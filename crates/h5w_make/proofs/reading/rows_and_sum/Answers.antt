@@ -1,7 +1,7 @@
 use Rattle.std.proofs.Common.{◌∙◌, map, pos, sym, refl}
 use Rattle.std.proofs.lemmas.List.{length-map}
 use Rattle.h5w_reader.specs.Cores.{reader}
-use Rattle.h5w_session.proofs.StateLemmas.{some_is}
+use Rattle.h5w_writer.proofs.StateLemmas.{some_is}
 use Rattle.h5w_make.proofs.ReadingLemmas.{still_opened}
 use Rattle.h5w_make.proofs.reading.rows_and_sum.Goals as goal
 

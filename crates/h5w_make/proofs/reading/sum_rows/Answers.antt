@@ -1,7 +1,7 @@
 use Rattle.std.proofs.Common.{rules, ◌≡◌, ◌∙◌, ◌≤◌, ◌<◌, ◌^◌, drop, take, length, map, pos, sum, sym, arith}
 use Rattle.std.proofs.lemmas.List.{length-map}
 use Rattle.h5w_reader.specs.Cores.{reader}
-use Rattle.h5w_session.proofs.StateLemmas.{some_is}
+use Rattle.h5w_writer.proofs.StateLemmas.{some_is}
 use Rattle.h5w_make.proofs.GeneratorLemmas.{part_numbers, sum_all, sum_more, sum_within}
 use Rattle.h5w_make.proofs.ReadingLemmas.{same_rows, still_opened}
 use Rattle.h5w_make.proofs.reading.sum_rows.Goals as goal

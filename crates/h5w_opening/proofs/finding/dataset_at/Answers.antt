@@ -1,11 +1,11 @@
 use Rattle.std.proofs.Common.{◌≡◌, true, Ok, Err, rules}
 use Rattle.h5w_model.specs.Programs.{eval}
 use Rattle.h5w_model.specs.Datasets.{HeaderFields, refused_as}
-use Rattle.h5w_found.specs.Walks.{dataset_header_for}
+use Rattle.h5w_headers.specs.Walks.{dataset_header_for}
 use Rattle.h5w_dataset.specs.Founds.{founds}
-use Rattle.h5w_found.specs.Headers.{header_of}
-use Rattle.h5w_found.proofs.RanLemmas.{ran_stop, ran_end, step_ok, step_err}
-use Rattle.h5w_found.proofs.KindLemmas.{ran_as}
+use Rattle.h5w_headers.specs.Headers.{header_of}
+use Rattle.h5w_headers.proofs.RanLemmas.{ran_stop, ran_end, step_ok, step_err}
+use Rattle.h5w_headers.proofs.KindLemmas.{ran_as}
 use Rattle.h5w_opening.specs.Errors.{open_error}
 use Rattle.h5w_opening.specs.Openings.{chunk_0_len, known}
 use Rattle.h5w_opening.specs.declared.error.OpenError.TheVariants.{Read}

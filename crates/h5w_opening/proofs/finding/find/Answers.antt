@@ -1,5 +1,5 @@
 use Rattle.std.proofs.Common.{◌≡◌, ◌∙◌, Err, refl, rules}
-use Rattle.h5w_found.proofs.RanLemmas.{ran_stop, ran_then_stop, ran_on, ran_end, told_ok, step_ok, step_err}
+use Rattle.h5w_headers.proofs.RanLemmas.{ran_stop, ran_then_stop, ran_on, ran_end, told_ok, step_ok, step_err}
 use Rattle.h5w_opening.specs.Views.{header_fields_of}
 use Rattle.h5w_opening.specs.Openings.{super_found, place_found, dataset_found}
 use Rattle.h5w_opening.proofs.OpeningLemmas.{opening_gives, behind_super, behind_place, opened_by}

@@ -1,10 +1,10 @@
 use Rattle.std.proofs.Common.{◌≡◌, ◌∙◌, true, Ok, Err, rules}
 use Rattle.h5w_model.specs.Programs.{eval}
 use Rattle.h5w_model.specs.Datasets.{HeaderFields, linked, refused_as}
-use Rattle.h5w_found.specs.Walks.{root_header_for}
-use Rattle.h5w_found.specs.Headers.{header_of}
-use Rattle.h5w_found.proofs.RanLemmas.{ran_stop, ran_refused, ran_end, step_ok, step_err}
-use Rattle.h5w_found.proofs.KindLemmas.{ran_as, told_as}
+use Rattle.h5w_headers.specs.Walks.{root_header_for}
+use Rattle.h5w_headers.specs.Headers.{header_of}
+use Rattle.h5w_headers.proofs.RanLemmas.{ran_stop, ran_refused, ran_end, step_ok, step_err}
+use Rattle.h5w_headers.proofs.KindLemmas.{ran_as, told_as}
 use Rattle.h5w_opening.specs.Errors.{open_error}
 use Rattle.h5w_opening.specs.declared.error.OpenError.TheVariants.{Read}
 use Rattle.h5w_opening.proofs.OpeningLemmas.{all_read}

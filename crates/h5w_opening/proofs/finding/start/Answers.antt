@@ -2,8 +2,8 @@ use Rattle.std.proofs.Common.{◌≡◌, Ok, Err, rules}
 use Rattle.h5w_model.specs.Numbers.{range}
 use Rattle.h5w_model.specs.Superblock.{super_at}
 use Rattle.h5w_model.specs.Datasets.{super_refusal, refused_as}
-use Rattle.h5w_found.proofs.RanLemmas.{ran_stop, ran_end, step_ok, step_err}
-use Rattle.h5w_found.proofs.KindLemmas.{ran_as}
+use Rattle.h5w_headers.proofs.RanLemmas.{ran_stop, ran_end, step_ok, step_err}
+use Rattle.h5w_headers.proofs.KindLemmas.{ran_as}
 use Rattle.h5w_opening.specs.Errors.{open_error}
 use Rattle.h5w_opening.specs.Openings.{closed_super}
 use Rattle.h5w_opening.specs.declared.error.OpenError.TheVariants.{Read}

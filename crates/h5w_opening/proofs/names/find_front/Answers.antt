@@ -1,5 +1,5 @@
 use Rattle.std.proofs.Common.{◌≡◌, ◌∙◌, Err, refl, rules}
-use Rattle.h5w_found.proofs.RanLemmas.{ran_stop, ran_then_stop, ran_on, ran_end, told_ok, step_ok, step_err}
+use Rattle.h5w_headers.proofs.RanLemmas.{ran_stop, ran_then_stop, ran_on, ran_end, told_ok, step_ok, step_err}
 use Rattle.h5w_opening.specs.Fronts.{places_found}
 use Rattle.h5w_opening.specs.Openings.{super_found}
 use Rattle.h5w_opening.proofs.FrontLemmas.{front_gives, fronted_by, places_behind}

@@ -1,7 +1,7 @@
 use Rattle.std.proofs.Common.{◌≡◌, ℤ, refl, rules, subst, sym, to_z, of_z}
 use Rattle.std.specs.Int.{w128}
 use Rattle.h5w_text.specs.declared.error.ErrorLine.TheVariants as errors
-use Rattle.h5w_several_session_laws.specs.Sessions.{AreSessions}
+use Rattle.h5w_several_writer_laws.specs.Sessions.{AreSessions}
 use Rattle.h5w_appending.proofs.StoreLemmas.{reference_of, unput_of}
 use Rattle.h5w_several_appending.specs.Appending.{ValuesRefused, no_memory, out_of_range, too_many}
 use Rattle.h5w_several_appending.proofs.StepLemmas.{appended_ok, get_some, never_busy, never_stopped, out_of_range_of, rows_at, too_many_of}

@@ -1,6 +1,6 @@
 use Rattle.std.proofs.Common.{◌≡◌, length, map, ap, Err, rules}
-use Rattle.h5w_session.specs.Sessions.{rows_of}
-use Rattle.h5w_several_session_laws.specs.Sessions.{all_pending}
+use Rattle.h5w_writer.specs.Sessions.{rows_of}
+use Rattle.h5w_several_writer_laws.specs.Sessions.{all_pending}
 use Rattle.h5w_several_appending.specs.Taken.{columns_in, told_line}
 use Rattle.h5w_several_appending.proofs.StepLemmas.{closes_broke, closes_ended, closes_half, closes_none, closes_wanting, closes_whole, columns_batch, none_planned, ready_batch, ready_flush_ended, ready_puts_ended, ready_same, some_planned}
 use Rattle.h5w_several_appending.proofs.batching.close_batch.Goals as goal

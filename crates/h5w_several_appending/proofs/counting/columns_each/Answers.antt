@@ -1,5 +1,5 @@
 use Rattle.std.proofs.Common.{◌∙◌, ◌≤◌, ◌<◌, ◌∷◌, ◌++◌, [], ap, length, subst, sym, arith}
-use Rattle.h5w_session.specs.Sessions.{Session}
+use Rattle.h5w_writer.specs.Sessions.{Session}
 use Rattle.h5w_several_batches.specs.SetLines.{columns_at}
 use Rattle.h5w_several_appending.proofs.CountLemmas.{some_more, take_one, take_whole, taken_count}
 use Rattle.h5w_several_appending.proofs.counting.columns_each.Goals as goal

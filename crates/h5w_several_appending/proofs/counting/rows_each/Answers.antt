@@ -1,5 +1,5 @@
 use Rattle.std.proofs.Common.{◌∙◌, ◌<◌, ◌∷◌, ◌++◌, [], ap, length, arith}
-use Rattle.h5w_session.specs.Sessions.{rows_of}
+use Rattle.h5w_writer.specs.Sessions.{rows_of}
 use Rattle.h5w_several_appending.proofs.CountLemmas.{take_one, take_whole, taken_count}
 use Rattle.h5w_several_appending.proofs.counting.rows_each.Goals as goal
 

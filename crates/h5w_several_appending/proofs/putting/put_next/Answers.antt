@@ -1,6 +1,6 @@
 use Rattle.std.proofs.Common.{drop}
-use Rattle.h5w_session.proofs.StateLemmas.{oldest}
-use Rattle.h5w_several_session_laws.specs.Sessions.{all_pending}
+use Rattle.h5w_writer.proofs.StateLemmas.{oldest}
+use Rattle.h5w_several_writer_laws.specs.Sessions.{all_pending}
 use Rattle.h5w_several_appending.proofs.PutLemmas.{one_less, puts_failed, puts_one}
 use Rattle.h5w_several_appending.proofs.putting.put_next.Goals as goal
 

@@ -1,6 +1,6 @@
 use Rattle.std.proofs.Common.{◌∙◌, refl, arith}
 use Rattle.h5w_appending.proofs.PutLemmas.{none_left, puts_there}
-use Rattle.h5w_several_session_laws.specs.Sessions.{all_pending}
+use Rattle.h5w_several_writer_laws.specs.Sessions.{all_pending}
 use Rattle.h5w_several_appending.proofs.PutLemmas.{end_left, puts_none, puts_then, room_left, some_then}
 use Rattle.h5w_several_appending.proofs.putting.put_pending.Goals as goal
 

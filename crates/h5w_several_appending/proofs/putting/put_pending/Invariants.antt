@@ -1,5 +1,5 @@
 use Rattle.std.proofs.Common.{◌≡◌, ◌+◌, length}
-use Rattle.h5w_several_session_laws.specs.Sessions.{all_pending}
+use Rattle.h5w_several_writer_laws.specs.Sessions.{all_pending}
 use Rattle.h5w_several_appending.specs.Puts.{PutsPieces}
 use Rattle.h5w_several_appending.proofs.putting.put_pending.Given as goal
 

@@ -1,6 +1,6 @@
 use Rattle.std.proofs.Common.{◌≤◌, ap, arith, length, rules, subst}
-use Rattle.h5w_session.specs.Sessions.{AllEndBy}
-use Rattle.h5w_session.proofs.PastLemmas.{ends_later}
+use Rattle.h5w_writer.specs.Sessions.{AllEndBy}
+use Rattle.h5w_writer.proofs.PastLemmas.{ends_later}
 use Rattle.h5w_several_core.specs.Creation.{AllSome}
 use Rattle.h5w_several_core.proofs.world.+put_all.Goals as goal
 

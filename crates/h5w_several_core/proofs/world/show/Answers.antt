@@ -2,8 +2,8 @@ use Rattle.std.proofs.Common.{◌≡◌, [], ◌∷◌, ◌∙◌, List, drop, r
 use Rattle.h5w_model.specs.declared.piece.Write.{Write}
 use Rattle.h5w_image.specs.View.{Wrote}
 use Rattle.h5w_steady.specs.Steady.{steady}
-use Rattle.h5w_session_laws.proofs.PieceLemmas.{oldest}
-use Rattle.h5w_several_session_laws.specs.Sessions.{all_pending}
+use Rattle.h5w_writer_laws.proofs.PieceLemmas.{oldest}
+use Rattle.h5w_several_writer_laws.specs.Sessions.{all_pending}
 use Rattle.h5w_several_core.proofs.ShowLemmas.{first_is, room_stays}
 use Rattle.h5w_several_core.proofs.world.show.Goals as goal
 

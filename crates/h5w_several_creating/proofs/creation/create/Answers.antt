@@ -3,8 +3,8 @@ use Rattle.h5w_creation_laws.specs.CreatedFiles.{CreatedFile}
 use Rattle.h5w_several_creation_laws.specs.SeveralFiles.{end_from, first_place}
 use Rattle.h5w_several_creation.specs.Forms.{each_by}
 use Rattle.h5w_several_creation.proofs.SetLemmas.{are_creatable, as_many}
-use Rattle.h5w_several_session.specs.Opened.{places_from}
-use Rattle.h5w_several_session_laws.specs.Sessions.{Sessions, all_pending}
+use Rattle.h5w_several_writer.specs.Opened.{places_from}
+use Rattle.h5w_several_writer_laws.specs.Sessions.{Sessions, all_pending}
 use Rattle.h5w_several_open.proofs.StandLemmas.{none_rested}
 use Rattle.h5w_several_creating.specs.Parts.{AddsParts}
 use Rattle.h5w_several_creating.specs.declared.parts.Shared.{Shared}

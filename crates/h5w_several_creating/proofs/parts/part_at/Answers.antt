@@ -6,7 +6,7 @@ use Rattle.h5w_index.specs.Held.{view_of}
 use Rattle.h5w_creation.specs.Forms.{created_by}
 use Rattle.h5w_creation.proofs.FormLemmas.{creatable}
 use Rattle.h5w_several_creation_laws.specs.SeveralFiles.{end_behind}
-use Rattle.h5w_session.specs.Sessions.{IsSession}
+use Rattle.h5w_writer.specs.Sessions.{IsSession}
 use Rattle.h5w_several_creating.proofs.SessionLemmas.{made_is, moved, moved_index, over_is, short_header}
 use Rattle.h5w_several_creating.proofs.parts.part_at.Goals as goal
 

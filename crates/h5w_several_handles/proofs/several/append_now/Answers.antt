@@ -1,6 +1,6 @@
 use Rattle.std.proofs.Common.{◌≡◌, Some, refl}
-use Rattle.h5w_session.specs.declared.refusal.AppendError.{AppendError}
-use Rattle.h5w_several_session.specs.Refusals.{append_refusal_in}
+use Rattle.h5w_writer.specs.declared.refusal.AppendError.{AppendError}
+use Rattle.h5w_several_writer.specs.Refusals.{append_refusal_in}
 use Rattle.h5w_several_handles.proofs.CallLemmas.{append_causes, kept_of}
 use Rattle.h5w_several_handles.proofs.ListLemmas.{empty_of}
 use Rattle.h5w_several_handles.proofs.several.append_now.Goals as goal

@@ -1,5 +1,5 @@
 use Rattle.std.proofs.Common.{◌∙◌, ℕ, Result, Err, subst}
-use Rattle.h5w_session.specs.declared.refusal.AppendError.{AppendError}
+use Rattle.h5w_writer.specs.declared.refusal.AppendError.{AppendError}
 use Rattle.h5w_writer_lines.specs.Lines.{line_text}
 use Rattle.h5w_writer_handles.specs.Tellings.{PutsLine}
 use Rattle.h5w_several_handles.proofs.several.append_rows.Goals as goal

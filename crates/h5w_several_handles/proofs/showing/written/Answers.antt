@@ -1,5 +1,5 @@
 use Rattle.std.proofs.Common.{rules, ◌≡◌, length, arith}
-use Rattle.h5w_several_session_laws.specs.Sessions.{all_pending}
+use Rattle.h5w_several_writer_laws.specs.Sessions.{all_pending}
 use Rattle.h5w_several_handles.proofs.PieceLemmas.{written_none}
 use Rattle.h5w_several_handles.proofs.showing.written.Goals as goal
 

@@ -1,11 +1,11 @@
 use Rattle.std.proofs.Common.{◌≡◌, Err, ap, ◌∙◌, subst, arith, length, rules}
 use Rattle.h5w_model.specs.declared.root.Super.{Super}
-use Rattle.h5w_found.specs.Ran.{seen}
+use Rattle.h5w_headers.specs.Ran.{seen}
 use Rattle.h5w_index.specs.Held.{view_of}
 use Rattle.h5w_opening.specs.Openings.{Opened, dataset_found}
 use Rattle.h5w_opening.specs.Views.{opened_of}
-use Rattle.h5w_session_open.specs.OpenParts.{IsUnread}
-use Rattle.h5w_session_open.proofs.OpenStepLemmas.{step_both, step_stop, step_then_stop}
+use Rattle.h5w_writer_open.specs.OpenParts.{IsUnread}
+use Rattle.h5w_writer_open.proofs.OpenStepLemmas.{step_both, step_stop, step_then_stop}
 use Rattle.h5w_several_open.proofs.AloneLemmas.{absent_one, begun_one, read_step, settled_one, taken_one, taken_stands, unfit_one, unread_one, written_at_tells}
 use Rattle.h5w_several_open.proofs.alone.takeover_one.Goals as goal
 

@@ -3,8 +3,8 @@ use Rattle.h5w_model.specs.Programs.{eval}
 use Rattle.h5w_opening.specs.Fronts.{written_front}
 use Rattle.h5w_opening.specs.Views.{front_fields_of}
 use Rattle.h5w_opening.specs.declared.error.OpenError.TheVariants.{OutOfMemory}
-use Rattle.h5w_session_open.proofs.OpenStepLemmas.{step_none, step_on, step_stop, told_step}
-use Rattle.h5w_session_open.proofs.PartLemmas.{memory_quiet}
+use Rattle.h5w_writer_open.proofs.OpenStepLemmas.{step_none, step_on, step_stop, told_step}
+use Rattle.h5w_writer_open.proofs.PartLemmas.{memory_quiet}
 use Rattle.h5w_several_open.proofs.AloneLemmas.{front_refused, front_told, with_root}
 use Rattle.h5w_several_open.proofs.alone.written_at.Goals as goal
 

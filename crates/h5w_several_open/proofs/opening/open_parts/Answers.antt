@@ -1,5 +1,5 @@
 use Rattle.std.proofs.Common.{◌≡◌, ℕ, List, Err, rules, subst}
-use Rattle.h5w_found.specs.Ran.{seen}
+use Rattle.h5w_headers.specs.Ran.{seen}
 use Rattle.h5w_image.proofs.ViewLemmas.{looked_twice}
 use Rattle.h5w_looks.proofs.ReadLemmas.{still_on}
 use Rattle.h5w_several_open.proofs.OpenLemmas.{no_front_answer, open_answer}

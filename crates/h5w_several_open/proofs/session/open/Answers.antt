@@ -1,9 +1,9 @@
 use Rattle.std.proofs.Common.{◌≡◌, ◌≤◌, List, length, ap, sym, ◌∙◌, subst, arith}
 use Rattle.h5w_model.specs.declared.root.Super.{Super}
-use Rattle.h5w_session.specs.Sessions.{Session}
-use Rattle.h5w_several_session_laws.specs.Sessions.{Sessions}
-use Rattle.h5w_several_session_laws.specs.Standing.{StandsAll}
-use Rattle.h5w_several_session.specs.Opened.{AreOpened, sessions_over}
+use Rattle.h5w_writer.specs.Sessions.{Session}
+use Rattle.h5w_several_writer_laws.specs.Sessions.{Sessions}
+use Rattle.h5w_several_writer_laws.specs.Standing.{StandsAll}
+use Rattle.h5w_several_writer.specs.Opened.{AreOpened, sessions_over}
 use Rattle.h5w_several_open.specs.Answers.{HasBegunWith}
 use Rattle.h5w_several_open.specs.Stands.{opened_file}
 use Rattle.h5w_several_open.proofs.BegunLemmas.{begun_all, opened_all, opened_grown}

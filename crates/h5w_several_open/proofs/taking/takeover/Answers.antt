@@ -2,8 +2,8 @@ use Rattle.std.proofs.Common.{◌≡◌, ◌≤◌, ℕ, List, Err, Ok, length, 
 use Rattle.h5w_image.proofs.ViewLemmas.{looked_twice}
 use Rattle.h5w_looks.proofs.ReadLemmas.{still_on}
 use Rattle.h5w_model.specs.declared.root.Super.{Super}
-use Rattle.h5w_session.specs.Sessions.{Session}
-use Rattle.h5w_several_session.specs.Opened.{AreOpened, sessions_at_rest}
+use Rattle.h5w_writer.specs.Sessions.{Session}
+use Rattle.h5w_several_writer.specs.Opened.{AreOpened, sessions_at_rest}
 use Rattle.h5w_several_open.specs.Answers.{HasBegunWith}
 use Rattle.h5w_several_open.specs.Progress.{ArePartsAnswer}
 use Rattle.h5w_several_open.specs.Taken.{closed_front}

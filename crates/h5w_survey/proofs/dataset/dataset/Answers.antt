@@ -1,7 +1,7 @@
 use Rattle.std.proofs.Common.{◌≡◌, None, Err, rules}
 use Rattle.h5w_model.specs.Programs.{eval}
-use Rattle.h5w_found.specs.Ran.{seen}
-use Rattle.h5w_found.proofs.RanLemmas.{ran_on, ran_stop}
+use Rattle.h5w_headers.specs.Ran.{seen}
+use Rattle.h5w_headers.proofs.RanLemmas.{ran_on, ran_stop}
 use Rattle.h5w_lookup.specs.Descents.{reading_news}
 use Rattle.h5w_survey.specs.Lookups.{behind_place, place_behind}
 use Rattle.h5w_survey.proofs.ReadingLemmas.{root_err, root_ok}

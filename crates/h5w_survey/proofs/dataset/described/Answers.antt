@@ -1,10 +1,10 @@
 use Rattle.std.proofs.Common.{◌≡◌, ◌∙◌, None, Err, false, rules, sym, ap}
 use Rattle.h5w_model.specs.Programs.{eval}
 use Rattle.h5w_dataset.specs.Founds.{founds}
-use Rattle.h5w_found.specs.Headers.{header_of}
-use Rattle.h5w_found.specs.Ran.{seen}
-use Rattle.h5w_found.specs.Walks.{dataset_header_for}
-use Rattle.h5w_found.proofs.RanLemmas.{ran_stop}
+use Rattle.h5w_headers.specs.Headers.{header_of}
+use Rattle.h5w_headers.specs.Ran.{seen}
+use Rattle.h5w_headers.specs.Walks.{dataset_header_for}
+use Rattle.h5w_headers.proofs.RanLemmas.{ran_stop}
 use Rattle.h5w_lookup.specs.Attempts.{described_rest, rules_of}
 use Rattle.h5w_lookup.specs.Descents.{reading_news}
 use Rattle.h5w_lookup.specs.declared.known.Rules.{Rules}

@@ -2,9 +2,9 @@ use Rattle.std.proofs.Common.{◌≡◌, Err, false, rules}
 use Rattle.h5w_model.specs.Programs.{eval}
 use Rattle.h5w_model.specs.Datasets.{linked}
 use Rattle.h5w_dataset.specs.Founds.{founds}
-use Rattle.h5w_found.specs.Headers.{header_of}
-use Rattle.h5w_found.specs.Walks.{root_header_for}
-use Rattle.h5w_found.proofs.RanLemmas.{ran_end, ran_stop}
+use Rattle.h5w_headers.specs.Headers.{header_of}
+use Rattle.h5w_headers.specs.Walks.{root_header_for}
+use Rattle.h5w_headers.proofs.RanLemmas.{ran_end, ran_stop}
 use Rattle.h5w_survey.proofs.ReadingLemmas.{place_of_root, place_refused}
 use Rattle.h5w_survey.proofs.dataset.header_place.Goals as goal
 

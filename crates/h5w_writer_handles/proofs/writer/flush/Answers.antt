@@ -1,6 +1,6 @@
 use Rattle.std.proofs.Common.{◌∙◌, ap, subst, Result, Err, arith, ℕ}
 use Rattle.h5w_model.specs.Causes.{Rose}
-use Rattle.h5w_session.specs.declared.refusal.FlushError.{FlushError}
+use Rattle.h5w_writer.specs.declared.refusal.FlushError.{FlushError}
 use Rattle.h5w_writer_lines.specs.Lines.{line_text}
 use Rattle.h5w_writer_handles.specs.Tellings.{PutsLine}
 use Rattle.h5w_writer_handles.proofs.FlushLemmas.{causes_here}

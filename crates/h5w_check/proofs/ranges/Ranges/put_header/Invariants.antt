@@ -1,6 +1,6 @@
 use Rattle.std.proofs.Common.{◌≡◌, drop}
 use Rattle.h5w_model.specs.Findings.{header_ranges}
-use Rattle.h5w_found.specs.Headers.{ranges_of}
+use Rattle.h5w_headers.specs.Headers.{ranges_of}
 use Rattle.h5w_check.specs.Ranges.{after}
 use Rattle.h5w_check.proofs.ranges.Ranges.put_header.Given as goal
 

@@ -5,8 +5,8 @@ use Rattle.h5w_model.specs.declared.reply.Reply.TheVariants as replies
 use Rattle.h5w_core.specs.Worlds.{AreRowsBy, Steps, WorldView, rules_of}
 use Rattle.h5w_core.proofs.WorldLemmas.{world_of}
 use Rattle.h5w_core.proofs.AppendLemmas.{AppendTells, append_done, append_memory, refused_done}
-use Rattle.h5w_session.specs.Refusals.{append_refusal}
-use Rattle.h5w_session.specs.declared.refusal.AppendError.TheVariants as errors
+use Rattle.h5w_writer.specs.Refusals.{append_refusal}
+use Rattle.h5w_writer.specs.declared.refusal.AppendError.TheVariants as errors
 use Rattle.h5w_core.proofs.NameLemmas.{append_named}
 use Rattle.h5w_core.proofs.HoldLemmas.{append_hold, appended_stands, same_stands}
 use Rattle.h5w_core.proofs.world.World.append.Goals as goal

@@ -1,5 +1,5 @@
 use Rattle.std.proofs.Common.{◌≡◌, ◌∙◌, None, Ok, Err, refl, ap, subst}
-use Rattle.h5w_session.specs.Refusals.{flush_refusal}
+use Rattle.h5w_writer.specs.Refusals.{flush_refusal}
 use Rattle.h5w_core.specs.Worlds.{WorldView}
 use Rattle.h5w_core.proofs.FlushLemmas.{LeavesSession, busy_done, flush_done, full_done, full_told, memory_only, stopped_done}
 use Rattle.h5w_core.proofs.NameLemmas.{flush_named}

@@ -1,5 +1,5 @@
 use Rattle.std.proofs.Common.{◌∙◌, ap}
-use Rattle.h5w_session.specs.Sessions.{Session}
+use Rattle.h5w_writer.specs.Sessions.{Session}
 use Rattle.h5w_core.specs.Worlds.{WorldView}
 use Rattle.h5w_core.proofs.HoldLemmas.{stop_hold, stop_logs, stop_steps}
 use Rattle.h5w_core.proofs.world.World.stop.Goals as goal

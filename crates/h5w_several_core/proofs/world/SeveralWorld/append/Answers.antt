@@ -1,8 +1,8 @@
 use Rattle.std.proofs.Common.{◌≡◌, ◌∙◌, ℤ, Ok, Err, ap, refl, rules, subst, sym, to_z, of_z}
 use Rattle.std.specs.Int.{w128}
 use Rattle.h5w_model.specs.declared.reply.Reply.TheVariants as replies
-use Rattle.h5w_session.specs.declared.refusal.AppendError.TheVariants as errors
-use Rattle.h5w_several_session_laws.specs.Sessions.{AreSessions}
+use Rattle.h5w_writer.specs.declared.refusal.AppendError.TheVariants as errors
+use Rattle.h5w_several_writer_laws.specs.Sessions.{AreSessions}
 use Rattle.h5w_several_scripts.specs.Scripts.{says}
 use Rattle.h5w_several_core.specs.Worlds.{FileSteps}
 use Rattle.h5w_several_core.specs.declared.events.FileEvent.TheVariants as events

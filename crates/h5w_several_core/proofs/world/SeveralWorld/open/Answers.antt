@@ -2,7 +2,7 @@ use Rattle.std.proofs.Common.{ℕ, List, ap, subst}
 use Rattle.std.specs.Result.{IfOk}
 use Rattle.h5w_model.specs.declared.reply.Reply.{Reply}
 use Rattle.h5w_reader.specs.Readers.{reader_rules}
-use Rattle.h5w_several_worlds.proofs.StepLemmas.{part_there}
+use Rattle.h5w_several_world_laws.proofs.StepLemmas.{part_there}
 use Rattle.h5w_several_core.specs.Places.{SeatOpens, seated}
 use Rattle.h5w_several_core.specs.Worlds.{pollings_of}
 use Rattle.h5w_several_core.proofs.ReaderLemmas.{opened_hold, opened_kept, opened_memory, opened_steps, told_full}

@@ -1,5 +1,5 @@
 use Rattle.std.proofs.Common.{◌∙◌, ap, map, refl, sym, subst}
-use Rattle.h5w_polling.specs.Polling.{Polling}
+use Rattle.h5w_script_laws.specs.Polling.{Polling}
 use Rattle.h5w_several_core.specs.Worlds.{AreRowsIn, IsHeardIn, rules_of}
 use Rattle.h5w_several_core.specs.declared.events.FileEvent.TheVariants as events
 use Rattle.h5w_several_core.proofs.StepLemmas.{lawful_if_ok, logged_if_ok, never_full, reply_never_full, step_lawful, step_logged}

@@ -1,5 +1,0 @@
-use Rattle.h5w_array_flushes.proofs.array_places.Goals as goal
-use Rattle.h5w_array_flushes.proofs.ArrayPlaceLemmas as lemmas
-
-pub returns : goal.returns
-returns c = lemmas.array_places

@@ -1,5 +1,0 @@
-use Rattle.h5w_array_flushes.proofs.array_rests_again.Goals as goal
-use Rattle.h5w_array_flushes.proofs.ArrayRestLemmas as lemmas
-
-pub returns : goal.returns
-returns c = lemmas.array_rests_again

@@ -1,5 +1,0 @@
-use Rattle.h5w_continuing.proofs.append_opens.Goals as goal
-use Rattle.h5w_continuing.proofs.ContinueLemmas as lemmas
-
-pub returns : goal.returns
-returns c = lemmas.append_opens

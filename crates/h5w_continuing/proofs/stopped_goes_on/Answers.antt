@@ -1,5 +1,0 @@
-use Rattle.h5w_continuing.proofs.stopped_goes_on.Goals as goal
-use Rattle.h5w_continuing.proofs.ContinueLemmas as lemmas
-
-pub returns : goal.returns
-returns c = lemmas.stopped_goes_on

@@ -1,5 +1,0 @@
-use Rattle.h5w_continuing.proofs.takeover_begins.Goals as goal
-use Rattle.h5w_continuing.proofs.ContinueLemmas as lemmas
-
-pub returns : goal.returns
-returns c = lemmas.takeover_begins

@@ -1,5 +1,0 @@
-use Rattle.h5w_headline.proofs.PremiseLemmas.{bounds_from_one}
-use Rattle.h5w_headline.proofs.bounds.bounds_from_one.Goals as goal
-
-pub returns : goal.returns
-returns c = bounds_from_one

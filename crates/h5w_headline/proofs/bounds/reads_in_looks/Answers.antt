@@ -1,5 +1,0 @@
-use Rattle.h5w_headline.proofs.ReadLooks.{reads_in_looks}
-use Rattle.h5w_headline.proofs.bounds.reads_in_looks.Goals as goal
-
-pub returns : goal.returns
-returns c = reads_in_looks

@@ -1,5 +1,0 @@
-use Rattle.h5w_headline.proofs.BoundLemmas.{refreshes_in_looks}
-use Rattle.h5w_headline.proofs.bounds.refreshes_in_looks.Goals as goal
-
-pub returns : goal.returns
-returns c = refreshes_in_looks

@@ -1,5 +1,0 @@
-use Rattle.h5w_headline.proofs.CallLemmas.{opens_on_rows}
-use Rattle.h5w_headline.proofs.headline.opens_on_rows.Goals as goal
-
-pub returns : goal.returns
-returns c = opens_on_rows

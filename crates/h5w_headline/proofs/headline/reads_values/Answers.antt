@@ -1,5 +1,0 @@
-use Rattle.h5w_headline.proofs.ValueLemmas.{reads_values}
-use Rattle.h5w_headline.proofs.headline.reads_values.Goals as goal
-
-pub returns : goal.returns
-returns c = reads_values

@@ -1,5 +1,0 @@
-use Rattle.h5w_headline.proofs.CallLemmas.{refreshes_to_rows}
-use Rattle.h5w_headline.proofs.headline.refreshes_to_rows.Goals as goal
-
-pub returns : goal.returns
-returns c = refreshes_to_rows

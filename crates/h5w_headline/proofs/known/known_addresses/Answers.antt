@@ -1,5 +1,0 @@
-use Rattle.h5w_headline.proofs.KnownLemmas.{known_addresses}
-use Rattle.h5w_headline.proofs.known.known_addresses.Goals as goal
-
-pub returns : goal.returns
-returns c = known_addresses

@@ -1,5 +1,0 @@
-use Rattle.h5w_headline.proofs.StillLemmas.{still_refresh}
-use Rattle.h5w_headline.proofs.still.still_refresh.Goals as goal
-
-pub returns : goal.returns
-returns c = still_refresh

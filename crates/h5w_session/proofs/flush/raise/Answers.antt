@@ -1,5 +1,0 @@
-use Rattle.std.proofs.Common.{inr}
-use Rattle.h5w_session.proofs.flush.raise.Goals as goal
-
-pub encode-requires : goal.encode-requires
-encode-requires c = inr c.requires

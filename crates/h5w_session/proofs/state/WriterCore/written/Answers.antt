@@ -1,5 +1,0 @@
-use Rattle.h5w_session.proofs.CreatingLemmas.{piece_stands}
-use Rattle.h5w_session.proofs.state.WriterCore.written.Goals as goal
-
-pub returns-clause-stands : goal.returns-clause-stands
-returns-clause-stands c w ws pending log stands = piece_stands c.args.self.now w ws _ log pending (c.advance.ensures w ws pending) stands

@@ -1,5 +1,0 @@
-use Rattle.h5w_session_laws.proofs.ServedLemmas.{session_serves}
-use Rattle.h5w_session_laws.proofs.served.session_serves.Goals as goal
-
-pub returns : goal.returns
-returns c = session_serves

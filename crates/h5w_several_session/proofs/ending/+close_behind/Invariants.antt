@@ -1,5 +1,0 @@
-use Rattle.std.proofs.Common.{length}
-use Rattle.h5w_several_session.proofs.ending.+close_behind.Given as goal
-
-abbrev pub decreases-close_behind : goal.decreases-close_behind
-decreases-close_behind l = length l.parts.now

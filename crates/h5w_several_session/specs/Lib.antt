@@ -1,6 +1,0 @@
-pub use Rattle.h5w_several_session_laws.specs.Sessions
-pub mod Flows
-pub mod Opened
-pub mod Parts
-pub mod Refusals
-pub mod Turns

@@ -1,9 +1,0 @@
-pub use Rattle.h5w_several_scripts.specs.Scripts
-pub use Rattle.h5w_several_session_laws.specs.Sessions
-pub use Rattle.h5w_several_session_laws.specs.Standing
-pub mod Beginnings
-pub mod Worlds
-pub mod Holding
-pub mod Steps
-pub mod ReaderSteps
-pub mod Refusals

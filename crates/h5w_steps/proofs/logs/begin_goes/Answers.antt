@@ -1,5 +1,0 @@
-use Rattle.h5w_steps.proofs.GoesLemmas as lemmas
-use Rattle.h5w_steps.proofs.logs.begin_goes.Goals as goal
-
-pub returns : goal.returns
-returns c = lemmas.begin_goes

@@ -1,5 +1,0 @@
-use Rattle.h5w_steps.proofs.PlanLaws as lemmas
-use Rattle.h5w_steps.proofs.places.retired_place.Goals as goal
-
-pub returns : goal.returns
-returns c = lemmas.retired_place

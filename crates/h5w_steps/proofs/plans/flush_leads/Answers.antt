@@ -1,5 +1,0 @@
-use Rattle.h5w_steps.proofs.PlanLaws as lemmas
-use Rattle.h5w_steps.proofs.plans.flush_leads.Goals as goal
-
-pub returns : goal.returns
-returns c = lemmas.flush_leads

@@ -1,5 +1,0 @@
-use Rattle.h5w_steps.proofs.SessionLaws as lemmas
-use Rattle.h5w_steps.proofs.sessions.opened_goes.Goals as goal
-
-pub returns : goal.returns
-returns c = lemmas.opened_goes

@@ -1,5 +1,0 @@
-use Rattle.h5w_steps.proofs.SessionLaws as lemmas
-use Rattle.h5w_steps.proofs.sessions.piece_runs.Goals as goal
-
-pub returns : goal.returns
-returns c = lemmas.piece_runs

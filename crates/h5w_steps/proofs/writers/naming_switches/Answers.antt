@@ -1,5 +1,0 @@
-use Rattle.h5w_steps.proofs.WriterLaws as lemmas
-use Rattle.h5w_steps.proofs.writers.naming_switches.Goals as goal
-
-pub returns : goal.returns
-returns c = lemmas.naming_switches

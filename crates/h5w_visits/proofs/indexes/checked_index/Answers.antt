@@ -1,5 +1,0 @@
-use Rattle.h5w_visits.proofs.indexes.checked_index.Goals as goal
-use Rattle.h5w_visits.proofs.IndexLaws as lemmas
-
-pub returns : goal.returns
-returns c = lemmas.checked_index
