@@ -7,7 +7,7 @@ ghost use Rattle.h5w_check.specs.Ranges.{after, put_after};
 
 use crate::error::CheckError;
 use h5w_bytes::UNDEFINED;
-use h5w_headers::Extent;
+use h5w_space::Extent;
 use std::alloc::Global;
 use std::marker::Model;
 
@@ -123,13 +123,13 @@ impl Ranges {
         ensures { Told (after self.old (header_ranges end (ranges_of extents.now))) (answering self.new result) }
     {
         for extent in extents {
-            if is_past(end, extent.place, extent.len) {
+            if is_past(end, extent.at, extent.size) {
                 return Err(CheckError::Finding {
                     kind: BLOCK_PAST_END,
-                    at: extent.place,
+                    at: extent.at,
                 });
             }
-            self.push(extent.place, extent.len, false)?;
+            self.push(extent.at, extent.size, false)?;
         }
         Ok(())
     }

@@ -8,12 +8,12 @@ use Rattle.h5w_model.specs.Datasets as model
 use Rattle.h5w_model.specs.declared.refusal.ReadError.{ReadError}
 use Rattle.h5w_model.specs.declared.refusal.HeaderError.TheVariants as header_errors
 use Rattle.h5w_headers.specs.Walks.{block_for}
+use Rattle.h5w_space.specs.declared.Extent.{Extent}
 use Rattle.h5w_dataset.specs.declared.found.FoundMessage.{FoundMessage}
-use Rattle.h5w_headers.specs.declared.walk.Extent.{Extent}
 use Rattle.h5w_headers.specs.declared.walk.Header.{Header}
 
 abbrev pub range_of : Extent → Range
-range_of e = record { place = e.place; len = e.len }
+range_of e = record { place = e.at; len = e.size }
 
 abbrev pub ranges_of : List Extent → List Range
 ranges_of es = map range_of es

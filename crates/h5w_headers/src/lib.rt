@@ -20,4 +20,4 @@ pub use front::superblock;
 pub use header::dataset_header;
 pub use linked::{Linked, places_of};
 pub use root::{place_of, root_header};
-pub use walk::{Extent, Header};
+pub use walk::Header;

@@ -18,6 +18,7 @@ use h5w_dataset::{FoundMessage, put_before};
 use h5w_image::PieceRead;
 use h5w_model::{BlockFault, HeaderError, OutOfMemory, Prefix, ReadError};
 use h5w_ohdr::{Msgs, block, messages};
+use h5w_space::Extent;
 use std::alloc::Global;
 
 /// The type of a continuation message.
@@ -28,13 +29,6 @@ const LEAST: u64 = 8;
 
 /// The most continuation blocks of a header.
 const BLOCKS: u8 = 32;
-
-/// A range of the image.
-#[derive(Clone, Copy)]
-pub struct Extent {
-    pub place: u64,
-    pub len: u64,
-}
 
 /// The messages of a header, each continuation's in place of its message, and its ranges in the order of visit.
 #[derive(Drop)]
@@ -140,7 +134,10 @@ fn add_extent(extents: &mut Vec<Extent>, place: u64, len: u64) -> Result<(), Fin
     ensures told { Told find_errors (Ok (ranges_of extents.old.items ++ record { place = place; len = len } ∷ [])) (answering (ranges_of extents.new.items) result) }
     ensures kinds { IfErr result IsFindKind }
 {
-    match extents.push(Extent { place, len }) {
+    match extents.push(Extent {
+        at: place,
+        size: len,
+    }) {
         Ok(()) => Ok(()),
         Err(_) => Err(FindError::OutOfMemory),
     }

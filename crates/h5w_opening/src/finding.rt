@@ -11,9 +11,10 @@ ghost use Rattle.h5w_opening.specs.Views.{header_fields_of, opened_of};
 use crate::error::OpenError;
 use h5w_bytes::UNDEFINED;
 use h5w_dataset::{Dataset, FoundMessage, describe, first};
-use h5w_headers::{Extent, dataset_header, place_of, root_header, superblock};
+use h5w_headers::{dataset_header, place_of, root_header, superblock};
 use h5w_image::PieceRead;
 use h5w_model::{ReadError, Super};
+use h5w_space::Extent;
 use std::alloc::Global;
 
 /// The type of a layout message.
@@ -110,7 +111,7 @@ fn chunk_0_len(extents: &[Extent]) -> u64
     ensures { result ≡ chunk_0_len (ranges_of extents.now) }
 {
     match extents.first() {
-        Some(chunk) => chunk.len,
+        Some(chunk) => chunk.size,
         None => 0,
     }
 }
