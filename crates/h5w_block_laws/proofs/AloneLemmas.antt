@@ -23,8 +23,8 @@ use Rattle.h5w_array_laws.proofs.InPlaceLemmas.{from_header, header_read, of_dat
 use Rattle.h5w_array_laws.proofs.StandLemmas.{header_fits}
 use Rattle.h5w_flush_laws.proofs.FlushLaws.{freed_known}
 use Rattle.h5w_flush_laws.proofs.KnownLaws.{begin_knows, end_known, one_answer}
-use Rattle.h5w_starting_laws.specs.Starting.{no_chunk}
-use Rattle.h5w_starting_laws.proofs.StartLemmas.{one_list}
+use Rattle.h5w_first_flush_laws.specs.FirstFlushes.{no_chunk}
+use Rattle.h5w_first_flush_laws.proofs.FirstFlushLemmas.{one_list}
 use Rattle.h5w_block_laws.specs.HeaderAlone.{IsHeaderAlone, AloneBegins, AloneEnds, AloneFreed, AloneNowhere}
 
 -- whatever is asked of the program that reads the blocks in place: it ends with the header

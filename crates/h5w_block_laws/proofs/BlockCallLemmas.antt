@@ -2,10 +2,7 @@
 use Rattle.std.proofs.Common.{◌≡◌, ℕ, List, [], ◌∷◌, ◌++◌, length, None, refl, sym, ◌∙◌, ap, subst, inl, inr, arith, length-append}
 use Rattle.std.specs.Prelude.{min, ℤ}
 use Rattle.h5w_model.specs.Arrays.{eahd_len, eaib_len}
-use Rattle.h5w_model.specs.Findings.{Used, chunk_bytes}
-use Rattle.h5w_model.specs.Headers.{with_rows_bytes}
-use Rattle.h5w_model.specs.Images.{image}
-use Rattle.h5w_model.specs.Logs.{plans, and_now}
+use Rattle.h5w_model.specs.Findings.{Used}
 use Rattle.h5w_model.specs.declared.piece.Write.{Write}
 use Rattle.h5w_visit_laws.specs.Ranges.{Among, AreApart, Disjoint, block_at}
 use Rattle.h5w_space.specs.Space.{Space, IsLive}
@@ -13,31 +10,29 @@ use Rattle.h5w_cache.specs.Stores.{Store}
 use Rattle.h5w_cache.specs.StoreLaws.{Standing}
 use Rattle.h5w_cache.specs.declared.moves.Move.{Move}
 use Rattle.h5w_chunks.specs.declared.grid.ChunkPlace.{ChunkPlace}
-use Rattle.h5w_header_laws.specs.Files.{chunk_0, commit_at}
+use Rattle.h5w_header_laws.specs.Files.{commit_at}
 use Rattle.h5w_step_laws.specs.Moments.{Moment, all_used}
 use Rattle.h5w_step_laws.specs.Logs.{image_now}
-use Rattle.h5w_step_laws.specs.Sessions.{Runs}
 use Rattle.h5w_step_laws.proofs.MomentLemmas.{in_fixed}
 use Rattle.h5w_step_laws.proofs.PartLemmas.{apart_sym, disjoint_apart}
-use Rattle.h5w_array_laws.specs.ArrayStores.{header_place, fixed_of, behind_of}
+use Rattle.h5w_array_laws.specs.ArrayStores.{header_place, fixed_of}
 use Rattle.h5w_array_laws.specs.ArrayImages.{StartsArray}
 use Rattle.h5w_array_laws.proofs.CreatedLemmas.{created_starts}
 use Rattle.h5w_flush_laws.specs.Spaces.{AllLive, Taken, extent_of}
-use Rattle.h5w_flush_laws.specs.Parts.{Parts, pieces_of}
 use Rattle.h5w_flush_laws.specs.Chunks.{chunks_for}
 use Rattle.h5w_flush_laws.proofs.SpaceLemmas.{taken_disjoint}
-use Rattle.h5w_array_flush_laws.specs.ArrayBegins.{Begins}
-use Rattle.h5w_starting_laws.specs.Starting.{no_chunk, IsBlank}
-use Rattle.h5w_starting_laws.specs.StartCalls.{first_shown}
-use Rattle.h5w_starting_laws.specs.StartFlushes.{HasStartingPart}
-use Rattle.h5w_starting_laws.proofs.StartLemmas.{blank_standing, created_blank}
-use Rattle.h5w_starting_laws.proofs.StartPieceLemmas.{start_part}
+use Rattle.h5w_first_flush_laws.specs.FirstFlushes.{no_chunk}
+use Rattle.h5w_first_flush_laws.specs.Starting.{IsBlank}
+use Rattle.h5w_first_flush_laws.specs.StartFlushes.{HasStartingPart}
+use Rattle.h5w_first_flush_laws.proofs.StartLemmas.{blank_standing, created_blank}
+use Rattle.h5w_first_flush_laws.proofs.StartPieceLemmas.{start_part}
 use Rattle.h5w_block_laws.specs.HeaderAlone.{AloneKnows}
-use Rattle.h5w_block_laws.specs.BlockFlushes.{AreBlockPieces, block_parts_for, block_piece, top_piece}
+use Rattle.h5w_block_laws.specs.BlockFlushes.{AreBlockPieces, block_parts_for, block_piece, new_block, top_piece}
 use Rattle.h5w_block_laws.specs.BlockCalls.{AreBlockCalls, BlockCalls, BlockPending, CallsBlock}
 use Rattle.h5w_block_laws.proofs.AloneLemmas.{alone_nowhere}
 use Rattle.h5w_block_laws.proofs.BlockFlushLemmas as flushes
-use Rattle.h5w_block_laws.proofs.BlockLeadLemmas.{block_leads, block_runs}
+use Rattle.h5w_first_flush_laws.proofs.ArrayLeadLemmas.{array_pending}
+use Rattle.h5w_block_laws.proofs.BlockLeadLemmas.{block_leads}
 
 -- of two pieces the last is one of them
 one_last : (front behind : List Write) (x y : Write) → front ++ behind ≡ x ∷ y ∷ [] → length behind ≡ 1 → (front ≡ x ∷ []) × (behind ≡ y ∷ [])
@@ -130,13 +125,6 @@ pub block_pending : BlockPending
 block_pending name log m base b t place u v w ms rows more writes places cs fixed supers ws k runs c values are =
     let now : List ℕ = image_now log in
     let x = block_calls now name m base b t place u v w ms rows more writes places cs fixed supers k c in
-    let f : Parts = block_parts_for m w rows more writes places x.copies supers t.end in
-    let same : pieces_of now m f ≡ ws = x.pieces ws are in
-    let over = block_runs name log m base b t u v w ms rows more writes places x.copies fixed supers k runs x.start values in
-    let leads = block_leads now name m base b t u v w ms rows more writes places x.copies fixed supers k x.start in
-    let after : Moment = first_shown m None w rows more t.end in
-    record {
-      runs = subst (λ (xs : List Write). Runs name (and_now (plans (length xs)) log) xs after (behind_of (chunk_bytes m.dataset) w)) same over.runs;
-      begins = subst (λ (xs : List Write). Begins (image now xs) name after t w) same leads.begins;
-      header = subst (λ (xs : List Write). chunk_0 (image now xs) m.place ≡ with_rows_bytes (chunk_0 now m.place) rows None) same leads.header;
-    }
+    array_pending name log m base t w rows more writes (chunks_for m no_chunk places) x.copies (new_block w) supers (top_piece w ∷ []) None k.knows runs
+    (flushes.block_first now name m base b t u v w ms rows more writes places x.copies fixed supers k x.start)
+    (block_leads now name m base b t u v w ms rows more writes places x.copies fixed supers k x.start) values ws (x.pieces ws are)

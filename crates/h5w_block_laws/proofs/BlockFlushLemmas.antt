@@ -17,25 +17,25 @@ use Rattle.h5w_header_laws.specs.Files.{commit_at}
 use Rattle.h5w_step_laws.specs.Moments.{Moment, all_used}
 use Rattle.h5w_step_laws.specs.Steps.{LiesIn}
 use Rattle.h5w_step_laws.proofs.PartLemmas.{apart_sym, disjoint_apart}
-use Rattle.h5w_array_laws.specs.Among.{AreAmong}
 use Rattle.h5w_array_laws.specs.Parts.{index_block, header}
 use Rattle.h5w_array_laws.specs.ArrayStores.{place_at_part, bytes_at_part, header_place, fixed_of}
 use Rattle.h5w_array_laws.specs.ArrayImages.{BehindStands, SaysArray}
-use Rattle.h5w_array_laws.specs.ArrayPlans.{IsArrayPlan}
+use Rattle.h5w_array_laws.specs.ArrayPlans.{fresh, IsArrayPlan}
 use Rattle.h5w_array_laws.proofs.FixedLemmas.{one_piece}
 use Rattle.h5w_array_laws.proofs.PlanLemmas.{two_apart}
 use Rattle.h5w_array_laws.proofs.StandLemmas.{header_length, header_placed, header_stands, index_length, index_placed, says_array}
 use Rattle.h5w_array_laws.proofs.WriteLemmas.{writes_leave}
-use Rattle.h5w_flush_laws.specs.Knowledge.{HeldMissed}
 use Rattle.h5w_flush_laws.specs.Spaces.{Taken}
-use Rattle.h5w_flush_laws.specs.Parts.{Parts, IsFlush, block_ranges, block_writes, copied, ended}
+use Rattle.h5w_flush_laws.specs.Parts.{Parts, block_ranges, block_writes, copied, ended}
 use Rattle.h5w_flush_laws.specs.Chunks.{chunks_for}
 use Rattle.h5w_flush_laws.proofs.FlushLemmas.{end_misses}
 use Rattle.h5w_flush_laws.proofs.SpaceLemmas.{taken_disjoint}
-use Rattle.h5w_starting_laws.specs.Starting.{no_chunk}
-use Rattle.h5w_starting_laws.proofs.FirstLemmas as first
-use Rattle.h5w_starting_laws.proofs.FirstLemmas.{RisesTo, ShowsFirst, header_of, second_of}
-use Rattle.h5w_starting_laws.proofs.StartPieceLemmas.{two_writes}
+use Rattle.h5w_first_flush_laws.specs.FirstFlushes.{IsFirstFlush, SaysFirst, no_chunk}
+use Rattle.h5w_array_laws.proofs.AmongLemmas.{part_as}
+use Rattle.h5w_first_flush_laws.proofs.FirstFlushLemmas.{first_is_flush}
+use Rattle.h5w_first_flush_laws.proofs.ArrayFirstLemmas as first
+use Rattle.h5w_first_flush_laws.proofs.ArrayFirstLemmas.{ShowsTops, header_of, second_of}
+use Rattle.h5w_first_flush_laws.proofs.StartPieceLemmas.{two_writes}
 use Rattle.h5w_block_laws.specs.HeaderAlone.{AloneKnows, IsAlone}
 use Rattle.h5w_block_laws.specs.BlockFlushes.{new_block, block_piece, top_piece, block_parts_for, IsBlockStart, BlockIsFlush, BlockPieces}
 use Rattle.h5w_block_laws.proofs.AloneLemmas.{alone_nowhere}
@@ -153,28 +153,23 @@ module _ (img name : List ℕ) (m : Moment) (base b t : Space) (u v w : Store) (
   ranges_are : block_ranges (new_block w) ≡ top ∷ []
   ranges_are = ap (λ n. block_at (place_at_part w index_block) n ∷ []) (index_length w planned.array)
 
-  shows : ShowsFirst img m w (new_block w) (top ∷ []) f
+  shows : ShowsTops m w (new_block w) (top ∷ [])
   shows = record {
     kind = r.alone.kind;
     whole = ap (λ (us : List Used). us ++ top ∷ []) (sym own);
-    into = subst (λ (us : List Used). AreAmong us (top ∷ [])) (sym ranges_are) (record { among = λ l a. a; counts = λ p. omega arith });
-    back = subst (λ (us : List Used). AreAmong (top ∷ []) us) (sym ranges_are) (record { among = λ l a. a; counts = λ p. omega arith });
-    behind = behind;
-    each_says = (lies, record { says = says.says; looks = sym says.looks }, tt);
-    said = λ none. absurd cc;
-    named = tt;
+    into = part_as (block_ranges (new_block w)) (top ∷ []) ranges_are;
+    back = part_as (top ∷ []) (block_ranges (new_block w)) (sym ranges_are);
   }
 
-  rising : RisesTo img m t rows more f places supers
-  rising = record { rises = x.rises; small = x.small; few = x.few; count = x.count; placed = x.placed; ended = x.ended }
+  first_says : SaysFirst img m f
+  first_says =
+      first.array_says m base b t u v w ms rows more writes places copies (new_block w) fixed supers (top_piece w ∷ []) None (top ∷ []) x.blank x.part shows img behind
+      (lies, record { says = says.says; looks = sym says.looks }, tt) (λ none. absurd cc)
 
-  is_flush : IsFlush img m no_chunk base (block_parts_for m w rows more writes places copies supers t.end) t
-  is_flush =
-      first.first_is_flush img name m base b t u v w ms rows more writes places copies (new_block w) fixed supers (top_piece w ∷ []) None (top ∷ []) r.knows x.blank x.part taken rising shows
-
-  pub block_missed : HeldMissed r.knows.held writes
-  block_missed =
-      first.first_missed img name m base b t u v w ms rows more writes places copies (new_block w) fixed supers (top_piece w ∷ []) None (top ∷ []) r.knows x.blank x.part taken rising shows
+  pub block_first : IsFirstFlush img m r.knows.held base t (block_parts_for m w rows more writes places copies supers t.end)
+  block_first =
+      first_is_flush img name m base t f (top ∷ []) (fresh ms) places r.knows (record { rises = x.rises; small = x.small; few = x.few; count = x.count; placed = x.placed; ended = x.ended; named = tt })
+      (first.array_takes m base b t u v w ms rows more writes places copies (new_block w) fixed supers (top_piece w ∷ []) None (top ∷ []) x.blank x.part shows taken) first_says
 
 pub block_is_flush : BlockIsFlush
-block_is_flush img name m base b t u v w ms rows more writes places copies fixed supers r x = is_flush img name m base b t u v w ms rows more writes places copies fixed supers r x
+block_is_flush img name m base b t u v w ms rows more writes places copies fixed supers r x = (block_first img name m base b t u v w ms rows more writes places copies fixed supers r x).flush

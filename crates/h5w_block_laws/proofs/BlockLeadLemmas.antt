@@ -18,30 +18,26 @@ use Rattle.h5w_array_laws.specs.ArrayPlans.{IsArrayPlan}
 use Rattle.h5w_array_laws.proofs.PlanLemmas.{two_apart}
 use Rattle.h5w_array_laws.proofs.StandLemmas.{header_placed, header_stands}
 use Rattle.h5w_array_laws.proofs.WriteLemmas.{which_part, writes_leave}
-use Rattle.h5w_flush_laws.specs.Knowledge.{HeldMissed}
-use Rattle.h5w_flush_laws.specs.Parts.{Parts, IsFlush, block_writes, copied, ended}
+use Rattle.h5w_flush_laws.specs.Parts.{Parts, block_writes, ended}
 use Rattle.h5w_flush_laws.specs.Chunks.{chunks_for}
-use Rattle.h5w_flush_laws.proofs.FlushLemmas.{supers_miss}
 use Rattle.h5w_flush_laws.proofs.HeaderLemmas.{last_image}
 use Rattle.h5w_array_flush_laws.proofs.ArrayFlushLemmas.{placed_range}
-use Rattle.h5w_starting_laws.specs.Starting.{no_chunk}
-use Rattle.h5w_starting_laws.specs.StartFlushes.{IsStarted}
-use Rattle.h5w_starting_laws.proofs.FirstLeadLemmas.{StandsThen, first_leads, first_runs}
+use Rattle.h5w_first_flush_laws.specs.FirstFlushes.{IsFirstFlush, no_chunk}
+use Rattle.h5w_first_flush_laws.specs.StartFlushes.{IsStarted}
+use Rattle.h5w_first_flush_laws.proofs.ArrayLeadLemmas.{StandsThen, array_leads, array_runs}
+use Rattle.h5w_first_flush_laws.proofs.FirstFlushLemmas.{stands_ended}
 use Rattle.h5w_block_laws.specs.HeaderAlone.{AloneKnows}
 use Rattle.h5w_block_laws.specs.BlockFlushes.{new_block, top_piece, block_parts_for, IsBlockStart, BlockLeads, BlockRuns}
 use Rattle.h5w_block_laws.proofs.BlockFlushLemmas as flushes
-use Rattle.h5w_block_laws.proofs.BlockFlushLemmas.{block_is_flush}
+use Rattle.h5w_block_laws.proofs.BlockFlushLemmas.{block_first}
 
 module _ (img name : List ℕ) (m : Moment) (base b t : Space) (u v w : Store) (ms : List Move) (rows : ℕ) (more : List ℤ) (writes : List Write) (places : List ChunkPlace) (copies : List (ℕ × List ℕ)) (fixed supers : List Write)
     (r : AloneKnows img name m base) (x : IsBlockStart img m base b u v ms w t rows more writes places copies fixed supers) where
   abbrev f : Parts
   f = block_parts_for m w rows more writes places copies supers t.end
 
-  i : IsFlush img m no_chunk base f t
-  i = block_is_flush img name m base b t u v w ms rows more writes places copies fixed supers r x
-
-  missed : HeldMissed r.knows.held writes
-  missed = flushes.block_missed img name m base b t u v w ms rows more writes places copies fixed supers r x
+  i : IsFirstFlush img m r.knows.held base t f
+  i = block_first img name m base b t u v w ms rows more writes places copies fixed supers r x
 
   array : IsArrayPlan v b ms (block_writes copies) fixed w t
   array = flushes.planned img name m base b t u v w ms rows more writes places copies fixed supers r x
@@ -51,7 +47,7 @@ module _ (img name : List ℕ) (m : Moment) (base b t : Space) (u v w : Store) (
   behind_last =
       let standing = flushes.standing img name m base b t u v w ms rows more writes places copies fixed supers r x in
       writes_leave.behind w (ended img f) (top_piece w ∷ []) (λ n placed low. (two_apart w t standing 846 n (λ e. absurd (omega (arith, e, low))) (header_placed w array.array) placed, tt))
-      (writes_leave.behind w (copied img f) supers (λ n placed low. supers_miss img name m no_chunk base t f r.knows i missed (block_at (place_of w n) (length (bytes_in w.blocks n))) (placed_range (chunk_bytes m.dataset) w n array.array placed))
+      (stands_ended (BehindStands w) img name m base t f r.knows i (λ other ws off. writes_leave.behind w other ws (λ n placed low. off (block_at (place_of w n) (length (bytes_in w.blocks n))) (placed_range (chunk_bytes m.dataset) w n array.array placed)))
       (flushes.behind img name m base b t u v w ms rows more writes places copies fixed supers r x))
 
   all_last : (n : ℕ) → IsPlaced w n → (n < 845) ⊎ (n ≡ 845) ⊎ (n ≡ 846) → At (last_image img f) (place_of w n) (bytes_in w.blocks n)
@@ -78,14 +74,13 @@ module _ (img name : List ℕ) (m : Moment) (base b t : Space) (u v w : Store) (
   }
 
   leads : IsStarted img name m r.knows.held t w f
-  leads = first_leads img name m base t w rows more writes (chunks_for m no_chunk places) copies (new_block w) supers t.end (top_piece w ∷ []) None r.knows i missed then
+  leads = array_leads img name m base t w rows more writes (chunks_for m no_chunk places) copies (new_block w) supers t.end (top_piece w ∷ []) None r.knows i then
 
 pub block_leads : BlockLeads
 block_leads img name m base b t u v w ms rows more writes places copies fixed supers r x = leads img name m base b t u v w ms rows more writes places copies fixed supers r x
 
 pub block_runs : BlockRuns
 block_runs name log m base b t u v w ms rows more writes places copies fixed supers r runs x values =
-    first_runs name log m base t w rows more writes (chunks_for m no_chunk places) copies (new_block w) supers t.end (top_piece w ∷ []) None r.knows runs
-    (flushes.block_missed (image_now log) name m base b t u v w ms rows more writes places copies fixed supers r x)
-    (block_is_flush (image_now log) name m base b t u v w ms rows more writes places copies fixed supers r x)
+    array_runs name log m base t w rows more writes (chunks_for m no_chunk places) copies (new_block w) supers (top_piece w ∷ []) None r.knows runs
+    (block_first (image_now log) name m base b t u v w ms rows more writes places copies fixed supers r x)
     (block_leads (image_now log) name m base b t u v w ms rows more writes places copies fixed supers r x) values

@@ -20,8 +20,8 @@ use Rattle.h5w_flush_laws.specs.Spaces.{Taken}
 use Rattle.h5w_flush_laws.specs.Parts.{AreEnded, block_writes, pieces_of}
 use Rattle.h5w_flush_laws.specs.Rows.{ArePlaced}
 use Rattle.h5w_flush_laws.specs.Chunks.{chunks_for}
-use Rattle.h5w_starting_laws.specs.Starting.{no_chunk}
-use Rattle.h5w_starting_laws.specs.StartCalls.{ArePending, IsMade, NamesChunks}
+use Rattle.h5w_first_flush_laws.specs.FirstFlushes.{no_chunk}
+use Rattle.h5w_first_flush_laws.specs.StartCalls.{ArePending, IsMade, NamesChunks}
 use Rattle.h5w_block_laws.specs.HeaderAlone.{AloneKnows}
 use Rattle.h5w_block_laws.specs.BlockFlushes.{IsBlockStart, block_parts_for}
 

@@ -20,8 +20,9 @@ use Rattle.h5w_flush_laws.specs.Spaces.{Taken}
 use Rattle.h5w_flush_laws.specs.Parts.{Parts, AreEnded, IsFlush, pieces_of, block_writes}
 use Rattle.h5w_flush_laws.specs.Rows.{ArePlaced}
 use Rattle.h5w_flush_laws.specs.Chunks.{chunks_for}
-use Rattle.h5w_starting_laws.specs.Starting.{no_chunk, IsBlank}
-use Rattle.h5w_starting_laws.specs.StartFlushes.{IsStarted, IsStartedOver, IsStartingPart, first_parts}
+use Rattle.h5w_first_flush_laws.specs.FirstFlushes.{no_chunk}
+use Rattle.h5w_first_flush_laws.specs.Starting.{IsBlank}
+use Rattle.h5w_first_flush_laws.specs.StartFlushes.{IsStarted, IsStartedOver, IsStartingPart, first_parts}
 use Rattle.h5w_block_laws.specs.HeaderAlone.{AloneKnows}
 
 -- the array's index block, as a block at a new place

@@ -12,7 +12,7 @@ use Rattle.h5w_step_laws.specs.Moments.{Moment, Represents}
 use Rattle.h5w_step_laws.specs.Steps.{Ends}
 use Rattle.h5w_flush_laws.specs.Flushes.{IsBegun}
 use Rattle.h5w_flush_laws.specs.Knowledge.{IsMap, Knows}
-use Rattle.h5w_starting_laws.specs.Starting.{no_chunk}
+use Rattle.h5w_first_flush_laws.specs.FirstFlushes.{no_chunk}
 
 -- The dataset's index is an array. Its layout names a place, and the header that stands there names no index block.
 pub record IsHeaderAlone (img : List ℕ) (d : Described) : Type 0 where

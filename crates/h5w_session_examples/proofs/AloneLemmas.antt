@@ -39,9 +39,10 @@ use Rattle.h5w_flush_laws.specs.Spaces.{Taken}
 use Rattle.h5w_flush_laws.specs.Parts.{AreEnded}
 use Rattle.h5w_flush_laws.specs.Rows.{IsPlaced, ArePlaced}
 use Rattle.h5w_session_examples.specs.FirstFlush.{places_to}
-use Rattle.h5w_starting_laws.specs.Starting.{no_chunk, IsBlank}
-use Rattle.h5w_starting_laws.specs.StartFlushes.{IsStarted}
-use Rattle.h5w_starting_laws.proofs.StartLemmas.{created_blank}
+use Rattle.h5w_first_flush_laws.specs.FirstFlushes.{no_chunk}
+use Rattle.h5w_first_flush_laws.specs.Starting.{IsBlank}
+use Rattle.h5w_first_flush_laws.specs.StartFlushes.{IsStarted}
+use Rattle.h5w_first_flush_laws.proofs.StartLemmas.{created_blank}
 use Rattle.h5w_block_laws.specs.HeaderAlone.{AloneKnows, IsHeaderAlone}
 use Rattle.h5w_block_laws.specs.BlockFlushes.{block_parts_for}
 use Rattle.h5w_block_laws.specs.BlockCalls.{AreBlockCalls}

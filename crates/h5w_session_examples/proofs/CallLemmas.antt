@@ -18,12 +18,13 @@ use Rattle.h5w_flush_laws.specs.Spaces.{Taken}
 use Rattle.h5w_flush_laws.specs.Parts.{AreEnded}
 use Rattle.h5w_flush_laws.specs.Rows.{IsPlaced, ArePlaced}
 use Rattle.h5w_session_examples.specs.FirstFlush.{places_to}
-use Rattle.h5w_starting_laws.specs.Starting.{no_chunk, StartKnows}
-use Rattle.h5w_starting_laws.specs.StartFlushes.{IsStarted, parts_for}
-use Rattle.h5w_starting_laws.specs.StartCalls.{AreStartCalls}
-use Rattle.h5w_starting_laws.proofs.StartLemmas.{created_blank}
-use Rattle.h5w_starting_laws.proofs.StartCallLemmas.{start_calls}
-use Rattle.h5w_starting_laws.proofs.StartLeadLemmas.{start_leads}
+use Rattle.h5w_first_flush_laws.specs.FirstFlushes.{no_chunk}
+use Rattle.h5w_first_flush_laws.specs.Starting.{StartKnows}
+use Rattle.h5w_first_flush_laws.specs.StartFlushes.{IsStarted, parts_for}
+use Rattle.h5w_first_flush_laws.specs.StartCalls.{AreStartCalls}
+use Rattle.h5w_first_flush_laws.proofs.StartLemmas.{created_blank}
+use Rattle.h5w_first_flush_laws.proofs.StartCallLemmas.{start_calls}
+use Rattle.h5w_first_flush_laws.proofs.StartLeadLemmas.{start_leads}
 use Rattle.h5w_session_examples.specs.UnnamedFlush.{open_to_write, opened_file, fourth_row, new_place}
 use Rattle.h5w_session_examples.specs.ArrayCalls.{AreCalls, StartIt, ArrayStarts}
 use Rattle.h5w_session_examples.proofs.UnnamedLemmas.{known, row_stands, each_fits, taken_from}

@@ -44,8 +44,8 @@ use Rattle.h5w_flush_laws.proofs.KnownLaws.{begin_knows, end_known}
 use Rattle.h5w_flush_laws.proofs.RowsLaws.{rows_flush}
 use Rattle.h5w_session_examples.specs.FirstFlush.{places_to}
 use Rattle.h5w_session_examples.proofs.SlotLemmas.{slot_here}
-use Rattle.h5w_starting_laws.specs.Starting.{no_chunk}
-use Rattle.h5w_starting_laws.proofs.StartLemmas.{unnamed_nowhere}
+use Rattle.h5w_first_flush_laws.specs.FirstFlushes.{no_chunk}
+use Rattle.h5w_first_flush_laws.proofs.FirstFlushLemmas.{unnamed_nowhere}
 use Rattle.h5w_examples.specs.Files.{file_with_times as unnamed_file}
 use Rattle.h5w_session_examples.specs.Bytes.{named_file}
 use Rattle.h5w_session_examples.specs.UnnamedFlush.{found, open_to_write, opening_piece, opened_file, second_chunk, new_place, fourth_row, IsUnnamedFlush}

@@ -18,7 +18,7 @@ use Rattle.h5w_array_laws.specs.ArrayPlans.{IsArrayPlan}
 use Rattle.h5w_ea_index.specs.Steps.{IsHeld, IsSet}
 use Rattle.h5w_flush_laws.specs.Parts.{AreEnded}
 use Rattle.h5w_session_examples.specs.FirstFlush.{places_to}
-use Rattle.h5w_starting_laws.specs.StartFlushes.{IsStarted}
+use Rattle.h5w_first_flush_laws.specs.StartFlushes.{IsStarted}
 use Rattle.h5w_block_laws.specs.HeaderAlone.{AloneKnows}
 use Rattle.h5w_block_laws.specs.BlockFlushes.{block_parts_for}
 use Rattle.h5w_block_laws.specs.BlockCalls.{CallsBlock}

@@ -11,8 +11,8 @@ use Rattle.h5w_array_laws.specs.ArrayPlans.{IsArrayPlan}
 use Rattle.h5w_ea_index.specs.Steps.{IsHeld, IsSet}
 use Rattle.h5w_flush_laws.specs.Parts.{AreEnded}
 use Rattle.h5w_session_examples.specs.FirstFlush.{places_to}
-use Rattle.h5w_starting_laws.specs.StartFlushes.{IsStarted, parts_for}
-use Rattle.h5w_starting_laws.specs.StartCalls.{CallsStart}
+use Rattle.h5w_first_flush_laws.specs.StartFlushes.{IsStarted, parts_for}
+use Rattle.h5w_first_flush_laws.specs.StartCalls.{CallsStart}
 use Rattle.h5w_session_examples.specs.UnnamedFlush.{open_to_write, opened_file, fourth_row, new_place}
 
 -- The array is made, its index block at 248 and its header at 546; the second chunk's slot is held, and gets the address 240; and the changed

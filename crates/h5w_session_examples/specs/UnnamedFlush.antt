@@ -13,7 +13,7 @@ use Rattle.h5w_step_laws.specs.Steps.{Ends}
 use Rattle.h5w_flush_laws.specs.Knowledge.{Knows}
 use Rattle.h5w_flush_laws.specs.Parts.{Parts, flushed_to, pieces_of, IsFlush}
 use Rattle.h5w_session_examples.specs.FirstFlush.{places_to}
-use Rattle.h5w_starting_laws.specs.Starting.{no_chunk}
+use Rattle.h5w_first_flush_laws.specs.FirstFlushes.{no_chunk}
 use Rattle.h5w_examples.specs.Files.{file_with_times as unnamed_file}
 use Rattle.h5w_session_examples.specs.Bytes.{opened_super, named_file}
 

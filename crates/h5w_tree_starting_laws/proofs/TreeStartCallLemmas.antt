@@ -20,8 +20,8 @@ use Rattle.h5w_array_laws.specs.Among.{AreAmong}
 use Rattle.h5w_array_laws.proofs.FixedLemmas.{one_piece}
 use Rattle.h5w_flush_laws.specs.Parts.{block_writes, pieces_of}
 use Rattle.h5w_flush_laws.specs.Chunks.{chunks_for}
-use Rattle.h5w_starting_laws.specs.Starting.{no_chunk}
-use Rattle.h5w_starting_laws.proofs.StartPieceLemmas.{regrouped, last_in}
+use Rattle.h5w_first_flush_laws.specs.FirstFlushes.{no_chunk}
+use Rattle.h5w_first_flush_laws.proofs.FirstFlushLemmas.{first_pieces}
 use Rattle.h5w_bt_index.specs.Marks.{Part, clean_of}
 use Rattle.h5w_bt_index.specs.Index.{Index, address_of, no_tree}
 use Rattle.h5w_bt_nodes.specs.Blocks.{written}
@@ -88,13 +88,9 @@ module _ (img : List ℕ) (m : Moment) (base b t : Space) (place : ℕ) (v w : I
 
   all_pieces : pieces_of img m (parts_for m place w rows more writes places copies supers t.end) ≡ writes ++ (cs ++ (fixed ++ (supers ++ commit_at img m.place rows (Some place) ∷ [])))
   all_pieces =
-      let header_piece : List Write = commit_at img m.place rows (Some place) ∷ [] in
-      let all : block_writes (copies ++ (place, bthd_bytes (header_of w)) ∷ []) ≡ cs ++ fixed =
-      flat_map-append (λ (x : ℕ × List ℕ). pieces x.0 x.1) copies ((place, bthd_bytes (header_of w)) ∷ [])
-      ∙ ap (λ (ws : List Write). block_writes copies ++ ws) (sym fixed_is) ∙ ap (λ (ws : List Write). ws ++ fixed) (sym c.plan.1.copies) in
-      ap (λ (ws : List Write). (writes ++ (ws ++ (supers ++ []))) ++ header_piece) all
-      ∙ ap (λ (ws : List Write). ws ++ header_piece) (regrouped writes cs fixed supers)
-      ∙ last_in writes cs fixed supers header_piece
+      first_pieces img m (parts_for m place w rows more writes places copies supers t.end) cs fixed refl
+      (flat_map-append (λ (x : ℕ × List ℕ). pieces x.0 x.1) copies ((place, bthd_bytes (header_of w)) ∷ [])
+      ∙ ap (λ (ws : List Write). block_writes copies ++ ws) (sym fixed_is) ∙ ap (λ (ws : List Write). ws ++ fixed) (sym c.plan.1.copies))
 
   calls_start : CallsStartTree img m base b place v ms w t rows more writes places cs fixed supers
   calls_start = record {

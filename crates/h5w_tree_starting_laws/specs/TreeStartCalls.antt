@@ -14,7 +14,7 @@ use Rattle.h5w_flush_laws.specs.Parts.{AreEnded, block_writes, pieces_of}
 use Rattle.h5w_flush_laws.specs.Rows.{ArePlaced}
 use Rattle.h5w_flush_laws.specs.Spaces.{Taken}
 use Rattle.h5w_flush_laws.specs.Chunks.{chunks_for}
-use Rattle.h5w_starting_laws.specs.Starting.{no_chunk}
+use Rattle.h5w_first_flush_laws.specs.FirstFlushes.{no_chunk}
 use Rattle.h5w_bt_index.specs.Index.{Index, no_tree}
 use Rattle.h5w_index.specs.Views.{a_tree}
 use Rattle.h5w_index.specs.Steps.{IsPlan}

@@ -1,20 +1,18 @@
 -- A file whose tree is not there yet: the layout names none, so all its chunks are absent. Its first flush makes the tree at new places.
 use Rattle.std.specs.Prelude.{◌≡◌, ℕ, ◌+◌, ◌*◌, ◌^◌, ◌<◌, false, List, [], ◌∷◌, ◌++◌, length, Some, ℤ}
-use Rattle.h5w_model.specs.Numbers.{undefined}
 use Rattle.h5w_model.specs.Images.{image}
 use Rattle.h5w_model.specs.Trees.{bthd_bytes, bthd_len}
 use Rattle.h5w_model.specs.Headers.{with_rows_bytes}
 use Rattle.h5w_model.specs.Logs.{Log, appended}
-use Rattle.h5w_model.specs.Datasets.{Described}
 use Rattle.h5w_model.specs.Findings.{Used, chunk_bytes}
 use Rattle.h5w_model.specs.declared.cell.IndexKind.TheVariants.{Tree as a_tree}
 use Rattle.h5w_model.specs.declared.piece.Write.{Write}
 use Rattle.h5w_visit_laws.specs.Needed.{AreFew}
 use Rattle.h5w_chunks.specs.declared.grid.ChunkPlace.{ChunkPlace}
-use Rattle.h5w_header_laws.specs.Files.{LayoutInChunk0, chunk_0, with_rows}
-use Rattle.h5w_space.specs.Space.{Space, Commits}
+use Rattle.h5w_header_laws.specs.Files.{chunk_0, with_rows}
+use Rattle.h5w_space.specs.Space.{Space}
 use Rattle.h5w_cache.specs.declared.moves.Move.{Move}
-use Rattle.h5w_step_laws.specs.Moments.{Moment, Represents}
+use Rattle.h5w_step_laws.specs.Moments.{Moment}
 use Rattle.h5w_step_laws.specs.Plans.{Flush}
 use Rattle.h5w_step_laws.specs.Logs.{image_now}
 use Rattle.h5w_step_laws.specs.Sessions.{Runs}
@@ -22,8 +20,7 @@ use Rattle.h5w_flush_laws.specs.Spaces.{Taken}
 use Rattle.h5w_flush_laws.specs.Knowledge.{Knows}
 use Rattle.h5w_flush_laws.specs.Parts.{AreEnded, IsFlush, Parts, block_writes, flushed_to, pieces_of}
 use Rattle.h5w_flush_laws.specs.Rows.{ArePlaced}
-use Rattle.h5w_flush_laws.specs.Flushes.{IsBegun, Rests, flush_planned, shown_also}
-use Rattle.h5w_starting_laws.specs.Starting.{no_chunk}
+use Rattle.h5w_first_flush_laws.specs.FirstFlushes.{IsFirstOver, UnnamedKnows, no_chunk}
 use Rattle.h5w_bt.specs.declared.records.Record.{Record}
 use Rattle.h5w_flush_laws.specs.Chunks.{chunks_for}
 use Rattle.h5w_bt_index.specs.Marks.{Part, clean_of}
@@ -33,15 +30,9 @@ use Rattle.h5w_bt_index.specs.Plans.{IsTreePlan, header_of, news}
 use Rattle.h5w_tree_index_laws.specs.TreeImages.{AreAmong, SameNodes, behind_of, blank}
 use Rattle.h5w_tree_index_laws.specs.TreeFlushes.{TreeRests, header_range}
 
--- the dataset's index is a tree that its layout does not name yet
-pub record IsUnnamedTree (d : Described) : Type 0 where
-  pub kind : d.layout.index ≡ a_tree
-  pub address : d.layout.address ≡ undefined
-
 -- What is known of such a file when nothing is pending: it is known as any other.
-pub record TreeStartKnows (img name : List ℕ) (m : Moment) (s : Space) : Type 0 where
-  pub knows : Knows img name m no_chunk s
-  pub unnamed : IsUnnamedTree m.dataset
+abbrev pub TreeStartKnows : List ℕ → List ℕ → Moment → Space → Type 0
+TreeStartKnows img name m s = UnnamedKnows a_tree img name m s
 
 -- No node of the tree was ever written: none has a place, and none is clean, but for the leaf of a tree without records.
 pub record IsUnwritten (v : Index) : Type 0 where
@@ -94,11 +85,6 @@ pub record IsTreeStart (img : List ℕ) (m : Moment) (base b : Space) (place : �
 
 -- ---- Laws
 
--- A session begins with such a file: the places begin at its end, and readers hold no more than what it has.
-abbrev pub TreeStartBegins : Type 0
-TreeStartBegins = (img name : List ℕ) (m : Moment) (s : Space) → Represents img name m → IsUnnamedTree m.dataset → LayoutInChunk0 img m.place → IsBegun m s
-    → (x : TreeStartKnows img name m s) × (x.knows.held ≡ m.behind)
-
 -- A tree without records is unwritten, and so is one with a record more, or with another.
 pub record UnwrittenLaws : Type 0 where
   pub none : IsUnwritten no_tree
@@ -124,12 +110,8 @@ TreeStartLeads = (img name : List ℕ) (m : Moment) (base b t : Space) (place : 
     (fixed supers : List Write) → (k : TreeStartKnows img name m base) → IsTreeStart img m base b place v ms w t rows more writes places copies fixed supers
     → IsTreeStarted img name m k.knows.held t place w (parts_for m place w rows more writes places copies supers t.end)
 
--- The same over a session's log: a flush is planned of all values that were appended; after all its pieces the session rests.
-pub record IsTreeStartedOver (name : List ℕ) (log : Log) (m : Moment) (t : Space) (w : Index) (f : Parts) : Type 0 where
-  pub runs : Runs name (flush_planned m f log) (pieces_of (image_now log) m f) (flushed_to m f) f.behind
-  pub rests : (v : Space) → Commits t v → Rests name (shown_also (pieces_of (image_now log) m f) (flush_planned m f log)) (flushed_to m f) (λ key. address_of w key) v
-
+-- The same over a session's log: a flush is planned of all values that were appended.
 abbrev pub TreeStartRuns : Type 0
 TreeStartRuns = (name : List ℕ) (log : Log) (m : Moment) (base b t : Space) (place : ℕ) (v w : Index) (ms : List Move) (rows : ℕ) (more : List ℤ) (writes : List Write) (places : List ChunkPlace) (copies : List (ℕ × List ℕ))
     (fixed supers : List Write) → (k : TreeStartKnows (image_now log) name m base) → Runs name log [] m k.knows.held → IsTreeStart (image_now log) m base b place v ms w t rows more writes places copies fixed supers
-    → m.values ++ more ≡ appended log → IsTreeStartedOver name log m t w (parts_for m place w rows more writes places copies supers t.end)
+    → m.values ++ more ≡ appended log → IsFirstOver name log m t (parts_for m place w rows more writes places copies supers t.end)

@@ -5,12 +5,7 @@
 #![tactic(auto)]
 
 ghost use Rattle.h5w_tree_starting_laws.specs.TreeStartCalls.{TreeStartCalls};
-ghost use Rattle.h5w_tree_starting_laws.specs.TreeStarting.{TreeStartBegins, TreeStartIsFlush, TreeStartLeads, TreeStartRuns, UnwrittenLaws};
-
-/// What a session knows of such a file that begins with it.
-pub fn tree_start_begins()
-    ensures { TreeStartBegins }
-{}
+ghost use Rattle.h5w_tree_starting_laws.specs.TreeStarting.{TreeStartIsFlush, TreeStartLeads, TreeStartRuns, UnwrittenLaws};
 
 /// No node of a tree without records was ever written, nor of one to which records came.
 pub fn unwritten_laws()

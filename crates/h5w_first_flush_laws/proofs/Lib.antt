@@ -1,0 +1,9 @@
+pub mod TakenLemmas
+pub mod FirstFlushLemmas
+pub mod StartLemmas
+pub mod StartPieceLemmas
+pub mod ArrayFirstLemmas
+pub mod ArrayLeadLemmas
+pub mod StartFlushLemmas
+pub mod StartLeadLemmas
+pub mod StartCallLemmas

@@ -1,0 +1,5 @@
+use Rattle.h5w_first_flush_laws.proofs.calls.start_calls.Goals as goal
+use Rattle.h5w_first_flush_laws.proofs.StartCallLemmas as lemmas
+
+pub returns : goal.returns
+returns c = lemmas.start_calls

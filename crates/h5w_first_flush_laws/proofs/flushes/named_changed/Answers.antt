@@ -1,0 +1,5 @@
+use Rattle.h5w_first_flush_laws.proofs.flushes.named_changed.Goals as goal
+use Rattle.h5w_first_flush_laws.proofs.StartPieceLemmas as lemmas
+
+pub returns : goal.returns
+returns c = lemmas.named_changed

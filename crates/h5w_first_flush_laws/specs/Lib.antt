@@ -1,0 +1,4 @@
+pub mod FirstFlushes
+pub mod Starting
+pub mod StartFlushes
+pub mod StartCalls

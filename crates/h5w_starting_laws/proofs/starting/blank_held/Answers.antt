@@ -1,5 +1,0 @@
-use Rattle.h5w_starting_laws.proofs.starting.blank_held.Goals as goal
-use Rattle.h5w_starting_laws.proofs.StartLemmas as lemmas
-
-pub returns : goal.returns
-returns c = lemmas.blank_held

@@ -1,5 +1,0 @@
-use Rattle.h5w_starting_laws.proofs.starting.rests_stay.Goals as goal
-use Rattle.h5w_starting_laws.proofs.StartLemmas as lemmas
-
-pub returns : goal.returns
-returns c = lemmas.rests_stay
