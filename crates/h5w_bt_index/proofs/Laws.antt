@@ -173,16 +173,6 @@ deep_blocked v key i d = record { absent = finds v key i ∙ d.absent; deepest =
 pub address-found : (v : Index) (key : Key) → IsIndex v → found_address v key ≡ address_of v key
 address-found v key i = sym (in_leaf-is key (records v) ∙ ap (λ (o : Option ℕ). unwrap_or o undefined) (sym (finds v key i)))
 
--- a held key gives what it gave
-pub held-map : (v : Index) (key k : Key) → IsIndex v → address_in key (records v) ≡ None → address_of (inserted (record { address = undefined; key = key }) v) k ≡ address_of v k
-held-map v key k i e =
-    let x : Record = record { address = undefined; key = key } in
-    elim (cases_Bool (key_equal key k)) [
-      | inl t ↦ inserted-map x v k i ∙ cond-true (key_equal key k) _ _ t
-          ∙ sym (in_leaf-is k (records v) ∙ ap (λ (o : Option ℕ). unwrap_or o undefined) (ap (λ (q : Key). address_in q (records v)) (sym (equal-is key k t)) ∙ e))
-      | inr f ↦ inserted-map x v k i ∙ cond-false (key_equal key k) _ _ f
-    ]
-
 -- a key that was put is there
 pub put-there : (x : Record) (v : Index) → IsIndex v → IsThere (inserted x v) x.key
 put-there x v i e = absurd (no (sym (ap (address_in x.key) (inserted-records x v i) ∙ put-finds_same x (records v)) ∙ e))
@@ -226,6 +216,3 @@ three-not_over x v k e = elim (cases_Bool (is_over v.depth (put v.depth x v.root
   | inl o ↦ absurd (omega (arith, k o, e))
   | inr o ↦ o
 ]
-
-pub false_not_true : false ≡ true → ⊥
-false_not_true h = cc

@@ -113,10 +113,6 @@ replaced_so x v w i h e = subst (IsReplaced x v) (sym e) (is_replaced x v i h)
 
 -- ---- Whether a record is found or not
 
--- of an index, what is found has a record
-pub found_has : (v : Index) (key : Key) (o : Option ℕ) → o ≡ found_by v key → is_some o ≡ true → IsIndex v → address_in key (records v) ≡ None → ⊥
-found_has v key o e h i n = none_is_some o h (e ∙ finds v key i ∙ n)
-
 -- a record that is found is put in its place, and the shape stays
 pub replaced_shaped : (x : Record) (v w : Index) → IsShaped v → is_some (found_by v x.key) ≡ true → w ≡ inserted x v → IsShaped w
 replaced_shaped x v w i h e =

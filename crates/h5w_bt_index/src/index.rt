@@ -11,7 +11,7 @@ ghost use Rattle.h5w_bt_nodes.specs.Blocks.{changes};
 ghost use Rattle.h5w_bt_index.specs.Plans.{HasNoPlace, IsBegun, IsTreePlan, TookSome, WasBegun, header_of};
 ghost use Rattle.h5w_bt_index.specs.Marks.{Part, clean_of};
 ghost use Rattle.h5w_space.specs.Space.{Space};
-ghost use Rattle.h5w_bt_nodes.specs.Nodes.{address_in, records_of, total_of};
+ghost use Rattle.h5w_bt_nodes.specs.Nodes.{records_of, total_of};
 ghost use Rattle.h5w_bt_nodes.specs.Puts.{put_record};
 
 use crate::error::InsertError;
@@ -143,35 +143,17 @@ impl TreeIndex {
         given(self.find(key))
     }
 
-    /// Whether a record of a key, where none is there, would make a tree of depth 4.
-    fn is_deep(&self, key: Key, there: bool) -> bool
-        requires shape { IsShaped (view_of self.now) }
-        requires there { there ≡ is_some (found_by (view_of self.now) key) }
-        ensures { IsTrue result ↔ IsBlocked (view_of self.now) key }
+    /// Whether no record of the key is found, and the tree has depth 3 and no room on the way to the key: a record more would make a tree
+    /// of depth 4.
+    pub fn is_deep(&self, key: Key) -> bool
+        requires { IsShaped (view_of self.now) }
+        ensures blocked { IsTrue result ↔ IsBlocked (view_of self.now) key }
+        ensures deep { IsIndex (view_of self.now) → (IsTrue result ↔ IsDeep (view_of self.now) key) }
     {
-        if there {
+        if !self.root.is_deepest(key) {
             return false;
         }
-        self.root.is_deepest(key)
-    }
-
-    /// Puts a record to its place, where a record of its key is there or is not.
-    fn put(&mut self, item: Record, there: bool) -> Result<(), InsertError>
-        requires shape { IsShaped (view_of self.old) }
-        requires there { there ≡ is_some (found_by (view_of self.old) item.key) }
-        ensures shape { IsShaped (view_of self.new) }
-        ensures index { IsIndex (view_of self.old) → IsIndex (view_of self.new) }
-        ensures ok { OnOk result ((view_of self.new) ≡ inserted item (view_of self.old)) }
-        ensures blocked { IfErr result (λ e. e ≡ InsertError.Deep → IsBlocked (view_of self.old) item.key) }
-        ensures refused { IsBlocked (view_of self.old) item.key → result ≡ Err InsertError.Deep }
-        ensures kept { OnErr result ((view_of self.new) ≡ (view_of self.old)) }
-        ensures place { header_place self.new ≡ header_place self.old }
-    {
-        if self.is_deep(item.key, there) {
-            return Err(InsertError::Deep);
-        }
-        self.root.put(item, self.alloc)?;
-        Ok(())
+        self.find(key).is_none()
     }
 
     /// Gives a chunk an address. Deep comes exactly where no record of the key is found, and the tree has depth 3 and no room on the way to
@@ -184,30 +166,7 @@ impl TreeIndex {
         ensures ok { OnOk result ((view_of self.new) ≡ inserted (record { address = address; key = key }) (view_of self.old)) }
         ensures map { IsIndex (view_of self.old) → OnOk result ((k : Key) → address_of (view_of self.new) k ≡ (if key_equal key k then address else address_of (view_of self.old) k)) }
         ensures sorted { IsIndex (view_of self.old) → OnOk result (records (view_of self.new) ≡ put_record (record { address = address; key = key }) (records (view_of self.old))) }
-        ensures shares { OnOk result (KeepsShares (view_of self.old) (view_of self.new)) }
-        ensures clean { OnOk result ((p : Part) → IsClean p (view_of self.new) → IsClean p (view_of self.old)) }
-        ensures blocked { IfErr result (λ e. e ≡ InsertError.Deep → IsBlocked (view_of self.old) key) }
-        ensures refused { IsBlocked (view_of self.old) key → result ≡ Err InsertError.Deep }
-        ensures deep { IsIndex (view_of self.old) → (IsBlocked (view_of self.old) key ↔ IsDeep (view_of self.old) key) }
-        ensures kept { OnErr result ((view_of self.new) ≡ (view_of self.old)) }
-        ensures place { header_place self.new ≡ header_place self.old }
-    {
-        let there = self.find(key).is_some();
-        self.put(Record { address, key }, there)
-    }
-
-    /// Holds a place for a chunk: a record of its key is there then, with an undefined address where it was not there before. What each
-    /// key gives stays.
-    pub fn hold(&mut self, key: Key) -> Result<(), InsertError>
-        requires { IsShaped (view_of self.old) }
-        ensures shape { IsShaped (view_of self.new) }
-        ensures index { IsIndex (view_of self.old) → IsIndex (view_of self.new) }
         ensures there { IsIndex (view_of self.old) → OnOk result (IsThere (view_of self.new) key) }
-        ensures map { IsIndex (view_of self.old) → OnOk result ((k : Key) → address_of (view_of self.new) k ≡ address_of (view_of self.old) k) }
-        ensures kept_found { OnOk result (is_some (found_by (view_of self.old) key) ≡ true → (view_of self.new) ≡ (view_of self.old)) }
-        ensures new_found { OnOk result (found_by (view_of self.old) key ≡ None → (view_of self.new) ≡ inserted (record { address = undefined; key = key }) (view_of self.old)) }
-        ensures same { IsIndex (view_of self.old) → OnOk result (IsThere (view_of self.old) key → (view_of self.new) ≡ (view_of self.old)) }
-        ensures new { IsIndex (view_of self.old) → OnOk result (address_in key (records (view_of self.old)) ≡ None → (view_of self.new) ≡ inserted (record { address = undefined; key = key }) (view_of self.old)) }
         ensures shares { OnOk result (KeepsShares (view_of self.old) (view_of self.new)) }
         ensures clean { OnOk result ((p : Part) → IsClean p (view_of self.new) → IsClean p (view_of self.old)) }
         ensures blocked { IfErr result (λ e. e ≡ InsertError.Deep → IsBlocked (view_of self.old) key) }
@@ -216,14 +175,11 @@ impl TreeIndex {
         ensures kept { OnErr result ((view_of self.new) ≡ (view_of self.old)) }
         ensures place { header_place self.new ≡ header_place self.old }
     {
-        if self.find(key).is_some() {
-            return Ok(());
+        if self.is_deep(key) {
+            return Err(InsertError::Deep);
         }
-        let item = Record {
-            address: UNDEFINED,
-            key,
-        };
-        self.put(item, false)
+        self.root.put(Record { address, key }, self.alloc)?;
+        Ok(())
     }
 
     /// Puts a record in the place of the one with its key; where none is found, nothing changes. Takes no memory.
@@ -241,24 +197,6 @@ impl TreeIndex {
             return; // keys that do not rise: no way leads to the record
         }
         self.root.replace(item);
-    }
-
-    /// A chunk, of whose key there is a record, has this address from now on, and each other one that which it had. Where keys do not rise,
-    /// and no record of the key is found, nothing changes.
-    ///
-    /// It takes no memory, and cannot fail.
-    pub fn set(&mut self, key: Key, address: u64)
-        requires shape { IsShaped (view_of self.old) }
-        requires there { IsIndex (view_of self.old) → IsThere (view_of self.old) key }
-        requires defined { address ≡ undefined → ⊥ }
-        ensures shape { IsShaped (view_of self.new) }
-        ensures found { is_some (found_by (view_of self.old) key) ≡ true → view_of self.new ≡ inserted (record { address = address; key = key }) (view_of self.old) }
-        ensures absent { found_by (view_of self.old) key ≡ None → view_of self.new ≡ view_of self.old }
-        ensures exact { IsIndex (view_of self.old) → view_of self.new ≡ inserted (record { address = address; key = key }) (view_of self.old) }
-        ensures set { IsIndex (view_of self.old) → IsReplaced (record { address = address; key = key }) (view_of self.old) (view_of self.new) }
-        ensures place { header_place self.new ≡ header_place self.old }
-    {
-        self.replace(Record { address, key });
     }
 
     /// A chunk, of whose key there is a record, has no address from now on, and each other one that which it had. The record stays. Where

@@ -9,17 +9,18 @@ use Rattle.h5w_cache.specs.declared.moves.Move.{Move}
 use Rattle.h5w_bt.specs.declared.records.Record.{Record}
 use Rattle.h5w_bt.proofs.KeyLemmas.{equal-is}
 use Rattle.h5w_bt_nodes.specs.Nodes.{address_in}
-use Rattle.h5w_bt_index.specs.Index.{Index, IsFilled, IsIndex, IsThere, inserted, no_tree, records}
+use Rattle.h5w_bt_index.specs.Index.{Index, IsFilled, IsIndex, IsThere, KeepsShares, inserted, no_tree, records}
 use Rattle.h5w_bt_index.specs.Plans.{news, planned as planned_tree}
-use Rattle.h5w_bt_index.proofs.Laws.{inserted-records}
+use Rattle.h5w_bt_index.proofs.Laws.{index_shaped, inserted-records, inserted-shares}
 use Rattle.h5w_bt_index.proofs.Placed.{planned_shares}
 use Rattle.h5w_bt_index.proofs.Rising.{put-finds_other}
 use Rattle.h5w_bt_index.proofs.Shares.{filled_kept}
 use Rattle.h5w_tree_index_laws.specs.TreeDepths.{KeysWithin}
 use Rattle.h5w_tree_index_laws.proofs.TreeDepthLemmas.{deep_is_many, within_is_few}
 use Rattle.h5w_index.specs.Views.{IndexView, an_array, a_tree, HasSlot, IsSound}
-use Rattle.h5w_index.specs.Steps.{IsDeep, IsHeld, IsPlan, IsSet, IsUnset, TreeHeld, TreeSet, blank}
+use Rattle.h5w_index.specs.Steps.{IsDeep, IsHeld, IsPlan, IsSet, IsUnset, TreeSet, TreeUnset, blank}
 use Rattle.h5w_index.specs.Depths.{AreWithin, DepthLaws, IsShallowTree}
+use Rattle.h5w_index.proofs.ToldLemmas.{unset_record}
 
 -- a key that has a record once another was put is that one's, or had it before
 there_before : (x : Record) (v : Index) (key : Key) → IsIndex v → key_equal x.key key ≡ false → IsThere (inserted x v) key → IsThere v key
@@ -32,22 +33,16 @@ put_within bands across x v i low left within key there =
       | inr e ↦ within key (there_before x v key i e there)
     ]
 
-tree_held : (bands across : ℕ) (key : Key) (v w : Index) → IsIndex v → key.i < bands → key.j < across → TreeHeld key v w → IsShallowTree bands across v → IsShallowTree bands across w
-tree_held bands across key v w i low left h within = record {
-  keys = elim h.is [
-    | inl same ↦ subst (KeysWithin bands across) (sym same) within.keys
-    | inr more ↦ subst (KeysWithin bands across) (sym more.1) (put_within bands across (blank key) v i low left within.keys)
-  ];
-  filled = filled_kept v w h.shares within.filled;
+tree_set : (bands across : ℕ) (x : Record) (v w : Index) → IsIndex v → x.key.i < bands → x.key.j < across → TreeSet x v w → IsShallowTree bands across v → IsShallowTree bands across w
+tree_set bands across x v w i low left h within = record {
+  keys = subst (KeysWithin bands across) (sym h.is) (put_within bands across x v i low left within.keys);
+  filled = filled_kept v w (subst (KeepsShares v) (sym h.is) (inserted-shares x v (index_shaped v i))) within.filled;
 }
 
-tree_set : (bands across : ℕ) (x : Record) (v w : Index) → IsIndex v → IsThere v x.key → TreeSet x v w → IsShallowTree bands across v → IsShallowTree bands across w
-tree_set bands across x v w i there h within =
-    let own = within.keys x.key there in
-    record {
-      keys = subst (KeysWithin bands across) (sym h.is) (put_within bands across x v i own.0 own.1 within.keys);
-      filled = filled_kept v w h.replaced.shares within.filled;
-    }
+tree_unset : (bands across : ℕ) (key : Key) (v w : Index) → IsIndex v → IsThere v key → TreeUnset key v w → IsShallowTree bands across v → IsShallowTree bands across w
+tree_unset bands across key v w i there h within =
+    let own = within.keys key there in
+    tree_set bands across (blank key) v w i own.0 own.1 (unset_record key v w h) within
 
 too_many : (n most : ℕ) → 1114349 ≤ n → n ≤ most → most ≤ 1114348 → ⊥
 too_many n most a b c = omega (arith, a, b, c)
@@ -64,19 +59,19 @@ depth_laws = record { none = none; more = more; held = held; set = set; unset = 
 
     held : (bands across : ℕ) (key : Key) (v w : IndexView) → IsSound v → key.i < bands → key.j < across → IsHeld key v w → AreWithin bands across v → AreWithin bands across w
     held bands across key (an_array v) (an_array w) is low left h within = tt
-    held bands across key (a_tree p v) (a_tree q w) is low left h within = tree_held bands across key v w is.index low left h.1 within
+    held bands across key (a_tree p v) (a_tree q w) is low left h within = subst (IsShallowTree bands across) (sym h.1) within
     held bands across key (an_array v) (a_tree q w) is low left h within = absurd h
     held bands across key (a_tree p v) (an_array w) is low left h within = absurd h
 
-    set : (bands across : ℕ) (key : Key) (address : ℕ) (v w : IndexView) → IsSound v → HasSlot v key → IsSet key address v w → AreWithin bands across v → AreWithin bands across w
-    set bands across key address (an_array v) (an_array w) is slot h within = tt
-    set bands across key address (a_tree p v) (a_tree q w) is slot h within = tree_set bands across (record { address = address; key = key }) v w is.index slot h.1 within
-    set bands across key address (an_array v) (a_tree q w) is slot h within = absurd h
-    set bands across key address (a_tree p v) (an_array w) is slot h within = absurd h
+    set : (bands across : ℕ) (key : Key) (address : ℕ) (v w : IndexView) → IsSound v → key.i < bands → key.j < across → IsSet key address v w → AreWithin bands across v → AreWithin bands across w
+    set bands across key address (an_array v) (an_array w) is low left h within = tt
+    set bands across key address (a_tree p v) (a_tree q w) is low left h within = tree_set bands across (record { address = address; key = key }) v w is.index low left h.1 within
+    set bands across key address (an_array v) (a_tree q w) is low left h within = absurd h
+    set bands across key address (a_tree p v) (an_array w) is low left h within = absurd h
 
     unset : (bands across : ℕ) (key : Key) (v w : IndexView) → IsSound v → HasSlot v key → IsUnset key v w → AreWithin bands across v → AreWithin bands across w
     unset bands across key (an_array v) (an_array w) is slot h within = tt
-    unset bands across key (a_tree p v) (a_tree q w) is slot h within = tree_set bands across (blank key) v w is.index slot h.1 within
+    unset bands across key (a_tree p v) (a_tree q w) is slot h within = tree_unset bands across key v w is.index slot h.1 within
     unset bands across key (an_array v) (a_tree q w) is slot h within = absurd h
     unset bands across key (a_tree p v) (an_array w) is slot h within = absurd h
 

@@ -1,5 +1,6 @@
 pub mod ArrayBehindLemmas
 pub mod ToldLemmas
+pub mod SetLemmas
 pub mod CountLemmas
 pub mod RaisedLemmas
 pub mod ArrayBoundLemmas

@@ -21,11 +21,12 @@ use Rattle.h5w_tree_index_laws.specs.TreeMarks.{HasChanged}
 use Rattle.h5w_tree_index_laws.proofs.TreeChangeLemmas.{inserted_changes}
 use Rattle.h5w_tree_index_laws.proofs.TreeMarkLemmas.{inserted_marks}
 use Rattle.h5w_index.specs.Views.{IndexView, an_array, a_tree, IsClean, IsSound}
-use Rattle.h5w_index.specs.Steps.{IsBegun, IsHeld, IsSet, IsUnset, ListsOnce, TreeHeld, TreeSet, blank}
+use Rattle.h5w_index.specs.Steps.{IsBegun, IsHeld, IsSet, IsUnset, ListsOnce, TreeSet, blank}
 use Rattle.h5w_index.specs.declared.begun.Begun.{Begun}
 use Rattle.h5w_index.specs.declared.begun.Begun.TheVariants.{Array, Tree}
 use Rattle.h5w_index.specs.Marks.{ArrayMarked, FullBounds, IsMarked, IsRaised, IsTouched, MarkLaws, PlanBounds, TreeMarked}
 use Rattle.h5w_index.proofs.ArrayBoundLemmas.{array_begun, array_bound, array_full}
+use Rattle.h5w_index.proofs.ToldLemmas.{unset_record}
 use Rattle.h5w_index.proofs.TreeBoundLemmas.{tree_begun, tree_bound, tree_full}
 
 -- ---- Where more rows wait
@@ -143,15 +144,8 @@ module _ (d : Described) (from to : ℕ) (x : Record) (v : Index) (i : IsIndex v
   tree_put : TreeMarked d from to (inserted x v)
   tree_put = elim (listed_or (times t.number m.numbers)) [ inl l ↦ put_listed l | inr none ↦ put_new none ]
 
-tree_held : (d : Described) (from to : ℕ) (key : Key) (v w : Index) → IsIndex v → IsTouched d from to key → TreeHeld key v w → TreeMarked d from to v → TreeMarked d from to w
-tree_held d from to key v w i t h m =
-    elim h.is [
-      | inl same ↦ subst (TreeMarked d from to) (sym same) m
-      | inr more ↦ subst (TreeMarked d from to) (sym more.1) (tree_put d from to (blank key) v i (subst IsIndex more.1 h.index) t m)
-    ]
-
 tree_set : (d : Described) (from to : ℕ) (x : Record) (v w : Index) → IsIndex v → IsTouched d from to x.key → TreeSet x v w → TreeMarked d from to v → TreeMarked d from to w
-tree_set d from to x v w i t h m = subst (TreeMarked d from to) (sym h.is) (tree_put d from to x v i (subst IsIndex h.is h.replaced.index) t m)
+tree_set d from to x v w i t h m = subst (TreeMarked d from to) (sym h.is) (tree_put d from to x v i (subst IsIndex h.is h.index) t m)
 
 -- ---- Either
 
@@ -168,19 +162,19 @@ mark_laws = record { clean = clean; more = more; held = held; set = set; unset =
 
     held : (d : Described) (from to : ℕ) (key : Key) (v w : IndexView) → IsSound v → IsTouched d from to key → IsHeld key v w → IsMarked d from to v → IsMarked d from to w
     held d from to key (an_array v) (an_array w) is t h m = array_way d from to key v w t h.way m
-    held d from to key (a_tree p v) (a_tree q w) is t h m = tree_held d from to key v w is.index t h.1 m
+    held d from to key (a_tree p v) (a_tree q w) is t h m = subst (TreeMarked d from to) (sym h.1) m
     held d from to key (an_array v) (a_tree q w) is t h m = absurd h
     held d from to key (a_tree p v) (an_array w) is t h m = absurd h
 
     set : (d : Described) (from to : ℕ) (key : Key) (address : ℕ) (v w : IndexView) → IsSound v → IsTouched d from to key → IsSet key address v w → IsMarked d from to v → IsMarked d from to w
-    set d from to key address (an_array v) (an_array w) is t h m = array_slot d from to key v w t h.way m
+    set d from to key address (an_array v) (an_array w) is t h m = array_way d from to key v w t h.way m
     set d from to key address (a_tree p v) (a_tree q w) is t h m = tree_set d from to (record { address = address; key = key }) v w is.index t h.1 m
     set d from to key address (an_array v) (a_tree q w) is t h m = absurd h
     set d from to key address (a_tree p v) (an_array w) is t h m = absurd h
 
     unset : (d : Described) (from to : ℕ) (key : Key) (v w : IndexView) → IsSound v → IsTouched d from to key → IsUnset key v w → IsMarked d from to v → IsMarked d from to w
     unset d from to key (an_array v) (an_array w) is t h m = array_slot d from to key v w t h.way m
-    unset d from to key (a_tree p v) (a_tree q w) is t h m = tree_set d from to (blank key) v w is.index t h.1 m
+    unset d from to key (a_tree p v) (a_tree q w) is t h m = tree_set d from to (blank key) v w is.index t (unset_record key v w h.1) m
     unset d from to key (an_array v) (a_tree q w) is t h m = absurd h
     unset d from to key (a_tree p v) (an_array w) is t h m = absurd h
 

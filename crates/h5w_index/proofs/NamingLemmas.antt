@@ -19,9 +19,9 @@ use Rattle.h5w_array_laws.proofs.AmongLemmas.{part_itself, part_joined, part_onw
 use Rattle.h5w_flush_laws.specs.Rows.{IsPlaced, new_chunks}
 use Rattle.h5w_tree_index_laws.specs.TreeImages.{AreSame}
 use Rattle.h5w_tree_index_laws.proofs.TreeRangeLemmas.{by_weight}
-use Rattle.h5w_index.specs.Views.{IndexView, HasSlot, IsReached, IsSound, address_in, behind_of, is_key}
+use Rattle.h5w_index.specs.Views.{IndexView, IsReached, IsSound, address_in, behind_of, is_key}
 use Rattle.h5w_index.specs.Steps.{IsHeld, IsSet}
-use Rattle.h5w_index.specs.Told.{HeldTold, SetTold}
+use Rattle.h5w_index.specs.Told.{SetTold}
 use Rattle.h5w_index.specs.Marks.{IsTouched}
 use Rattle.h5w_index.specs.Placing.{AllPlaced, Fits, IsPlacing, next_key}
 use Rattle.h5w_index.specs.Naming.{AreNamed, AreTaken, NamingLaws}
@@ -97,10 +97,10 @@ module _ (d : Described) (to : ℕ) (v w : IndexView) (chunks : List ChunkPlace)
         ];
   }
 
--- The next chunk has none: a place is held for it in the index, which names it.
-module _ (d : Described) (to : ℕ) (v w h u : IndexView) (chunks : List ChunkPlace) (added : List Key) (p : ChunkPlace) (fits : Fits d v) (low : length chunks < touched d d.shape.rows to)
-    (none : address_in w (next_key d chunks) ≡ undefined) (fresh : p.stored ≡ false) (defined : p.address ≢ undefined) (held : IsHeld (next_key d chunks) w h) (slot : HasSlot h (next_key d chunks))
-    (set : IsSet (next_key d chunks) p.address h u) (x : AreNamed d to v chunks added w) where
+-- The next chunk has none: the index names it.
+module _ (d : Described) (to : ℕ) (v w u : IndexView) (chunks : List ChunkPlace) (added : List Key) (p : ChunkPlace) (fits : Fits d v) (low : length chunks < touched d d.shape.rows to)
+    (none : address_in w (next_key d chunks) ≡ undefined) (fresh : p.stored ≡ false) (defined : p.address ≢ undefined)
+    (set : IsSet (next_key d chunks) p.address w u) (x : AreNamed d to v chunks added w) where
   abbrev key : Key
   key = next_key d chunks
 
@@ -113,24 +113,18 @@ module _ (d : Described) (to : ℕ) (v w h u : IndexView) (chunks : List ChunkPl
   touches : IsTouched d d.shape.rows to key
   touches = record { number = length chunks; inside = low; is = refl }
 
-  held_told : HeldTold w h
-  held_told = held_tells key w h x.partly.like.sound held
-
-  set_told : SetTold key p.address h u
-  set_told = set_tells key p.address h u held_told.like.sound slot defined set
+  set_told : SetTold key p.address w u
+  set_told = set_tells key p.address w u x.partly.like.sound defined set
 
   was_none : address_in v key ≡ undefined
   was_none = sym (named_before d to v w chunks added fits x) ∙ none
 
   map_there : address_in u key ≡ p.address
-  map_there = set_told.map key ∙ cond-true (is_key h key key) p.address (address_in h key) (own_key h key)
+  map_there = set_told.map key ∙ cond-true (is_key w key key) p.address (address_in w key) (own_key w key)
 
   -- whether a key is this one is as it was
-  same_is : (other : Key) → is_key h key other ≡ is_key v key other
-  same_is other = held_told.like.one key other ∙ x.partly.like.one key other
-
   map_others : (other : Key) → is_key v key other ≡ false → address_in u other ≡ address_in w other
-  map_others other e = set_told.map other ∙ cond-false (is_key h key other) p.address (address_in h other) (same_is other ∙ e) ∙ held_told.map other
+  map_others other e = set_told.map other ∙ cond-false (is_key w key other) p.address (address_in w other) (x.partly.like.one key other ∙ e)
 
   new_there : IsPlaced d (address_in v) (address_in u) d.shape.rows (length chunks) p
   new_there = record {
@@ -157,14 +151,12 @@ module _ (d : Described) (to : ℕ) (v w h u : IndexView) (chunks : List ChunkPl
   ranges_now =
       let c : Used = chunk_at p.address bytes in
       let before : List Used = new_ranges ++ behind_of bytes v in
-      let held_same : AreAmong (behind_of bytes h) (behind_of bytes w) = same_among (behind_of bytes h) (behind_of bytes w) (same_ranges w h bytes x.partly.like.sound held_told.like held_told.map) in
-      let all : AreAmong (behind_of bytes h) before = part_onward (behind_of bytes h) (behind_of bytes w) before held_same x.behind in
-      let both : AreAmong (c ∷ behind_of bytes h) (c ∷ before) = part_joined (c ∷ []) (behind_of bytes h) (c ∷ []) before (part_itself (c ∷ [])) all in
-      part_onward (behind_of bytes u) (c ∷ before) ((new_ranges ++ c ∷ []) ++ behind_of bytes v) (part_onward (behind_of bytes u) (c ∷ behind_of bytes h) (c ∷ before) (set_told.behind bytes) both) (turn c new_ranges (behind_of bytes v))
+      let both : AreAmong (c ∷ behind_of bytes w) (c ∷ before) = part_joined (c ∷ []) (behind_of bytes w) (c ∷ []) before (part_itself (c ∷ [])) x.behind in
+      part_onward (behind_of bytes u) (c ∷ before) ((new_ranges ++ c ∷ []) ++ behind_of bytes v) (part_onward (behind_of bytes u) (c ∷ behind_of bytes w) (c ∷ before) (set_told.behind bytes) both) (turn c new_ranges (behind_of bytes v))
 
   pub named_new : AreNamed d to v (chunks ++ p ∷ []) (added ++ key ∷ []) u
   named_new = record {
-    partly = partly_set d to key p.address v h u added touches slot defined was_none set (partly_held d to key v w h added touches held x.partly);
+    partly = partly_set d to key p.address v w u added touches defined was_none set x.partly;
     placed = λ k q at.
         elim (get_pushed chunks p k q at) [
           | inl before ↦ old_there k q before
@@ -174,12 +166,12 @@ module _ (d : Described) (to : ℕ) (v w h u : IndexView) (chunks : List ChunkPl
     behind = subst (λ (us : List Used). AreAmong (behind_of bytes u) (us ++ behind_of bytes v)) (sym (one_range d (address_in v) [] chunks chunks p refl was_none)) ranges_now;
     reached = λ k q at.
         elim (get_pushed chunks p k q at) [
-          | inl before ↦ reach_laws.set key (touched_key d d.shape.rows k) p.address h u set (reach_laws.held key (touched_key d d.shape.rows k) w h held (x.reached k q before))
-          | inr last ↦ subst (λ n. IsReached u (touched_key d d.shape.rows n)) (sym last.0) (reach_laws.new key p.address h u set)
+          | inl before ↦ reach_laws.set key (touched_key d d.shape.rows k) p.address w u set (x.reached k q before)
+          | inr last ↦ subst (λ n. IsReached u (touched_key d d.shape.rows n)) (sym last.0) (reach_laws.new key p.address w u set)
         ];
   }
 
--- a place is held for one of the chunks, and nothing else
+-- the blocks on the way to one of the chunks are there, and nothing else
 pub named_held : (d : Described) (to : ℕ) (key : Key) (v w u : IndexView) (chunks : List ChunkPlace) (added : List Key) → IsTouched d d.shape.rows to key → IsHeld key w u → AreNamed d to v chunks added w → AreNamed d to v chunks added u
 named_held d to key v w u chunks added touches held x =
     let told = held_tells key w u x.partly.like.sound held in

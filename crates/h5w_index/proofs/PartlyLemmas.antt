@@ -143,14 +143,14 @@ partly_held d to key v w u added t h p =
       reach = λ other there low. reach_laws.held key other w u h (p.reach other (λ e. there (told.map other ∙ e)) low);
     }
 
--- a chunk gets an address where a place is held for it
-pub partly_set : (d : Described) (to : ℕ) (key : Key) (address : ℕ) (v w u : IndexView) (added : List Key) → IsTouched d d.shape.rows to key → HasSlot w key → address ≢ undefined → address_in v key ≡ undefined → IsSet key address w u
+-- a chunk gets an address
+pub partly_set : (d : Described) (to : ℕ) (key : Key) (address : ℕ) (v w u : IndexView) (added : List Key) → IsTouched d d.shape.rows to key → address ≢ undefined → address_in v key ≡ undefined → IsSet key address w u
     → IsPartly d to v added w → IsPartly d to v (added ++ key ∷ []) u
-partly_set d to key address v w u added t slot defined none h p =
-    let told = set_tells key address w u p.like.sound slot defined h in
+partly_set d to key address v w u added t defined none h p =
+    let told = set_tells key address w u p.like.sound defined h in
     record {
       like = like_laws.onward v w u p.like told.like;
-      slots = All-push (HasSlot u) added key (slots_stay w u added told.like p.slots) (told.like.slots key slot);
+      slots = All-push (HasSlot u) added key (slots_stay w u added told.like p.slots) told.slot;
       touches = All-push (IsTouched d d.shape.rows to) added key p.touches t;
       absent = All-push (λ other. address_in v other ≡ undefined) added key p.absent none;
       rest = λ other differ.

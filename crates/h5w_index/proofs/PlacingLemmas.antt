@@ -20,7 +20,7 @@ use Rattle.h5w_chunks.proofs.KeyLemmas.{first_line_grows, touched_low}
 use Rattle.h5w_chunks.specs.declared.grid.ChunkPlace.{ChunkPlace}
 use Rattle.h5w_header_laws.specs.Files.{with_rows}
 use Rattle.h5w_flush_laws.proofs.NewChunkLemmas.{same_len}
-use Rattle.h5w_index.specs.Views.{IndexView, HasSlot, IsReached, IsSound, address_in, is_key}
+use Rattle.h5w_index.specs.Views.{IndexView, IsReached, IsSound, address_in, is_key}
 use Rattle.h5w_index.specs.Steps.{IsBegun, IsHeld, IsPlan, IsSet, ListsOnce}
 use Rattle.h5w_index.specs.declared.begun.Begun.{Begun}
 use Rattle.h5w_index.specs.Told.{SameMap}
@@ -56,16 +56,16 @@ placing_stored d to v w s t chunks added p fits is defined whole looked within x
     placing d to v w s t (chunks ++ p ∷ []) added (named_stored d to v w chunks added p fits is defined whole looked n)
     (taken_stored d (address_in v) s t chunks p there (omega (arith, own, before, x.raised.rises)) (taken_of d to v w s t chunks added x))
 
--- The next chunk has none: a place is held for it in the index, one is taken in the file, and the index names it.
-placing_new : (d : Described) (to : ℕ) (v w h u : IndexView) (s t next : Space) (chunks : List ChunkPlace) (added : List Key) (p : ChunkPlace) → Fits d v → 0 < chunk_len d → length chunks < touched d d.shape.rows to
-    → address_in w (next_key d chunks) ≡ undefined → p.stored ≡ false → p.address ≢ undefined → IsHeld (next_key d chunks) w h → HasSlot h (next_key d chunks) → Took t next (extent p.address (chunk_len d))
-    → IsSet (next_key d chunks) p.address h u → IsPlacing d to v s chunks added w t → IsPlacing d to v s (chunks ++ p ∷ []) (added ++ next_key d chunks ∷ []) u next
-placing_new d to v w h u s t next chunks added p fits some low none fresh defined held slot took set x =
+-- The next chunk has none: one is taken in the file, and the index names it.
+placing_new : (d : Described) (to : ℕ) (v w u : IndexView) (s t next : Space) (chunks : List ChunkPlace) (added : List Key) (p : ChunkPlace) → Fits d v → 0 < chunk_len d → length chunks < touched d d.shape.rows to
+    → address_in w (next_key d chunks) ≡ undefined → p.stored ≡ false → p.address ≢ undefined → Took t next (extent p.address (chunk_len d))
+    → IsSet (next_key d chunks) p.address w u → IsPlacing d to v s chunks added w t → IsPlacing d to v s (chunks ++ p ∷ []) (added ++ next_key d chunks ∷ []) u next
+placing_new d to v w u s t next chunks added p fits some low none fresh defined took set x =
     let n = named_of d to v w s t chunks added x in
-    placing d to v u s next (chunks ++ p ∷ []) (added ++ next_key d chunks ∷ []) (named_new d to v w h u chunks added p fits low none fresh defined held slot set n)
+    placing d to v u s next (chunks ++ p ∷ []) (added ++ next_key d chunks ∷ []) (named_new d to v w u chunks added p fits low none fresh defined set n)
     (taken_new d (address_in v) s t next chunks p some (sym (named_before d to v w chunks added fits n) ∙ none) took (taken_of d to v w s t chunks added x))
 
--- A place is held for one that has its place.
+-- The blocks on the way to one that has its place are there.
 placing_holds : (d : Described) (to : ℕ) (key : Key) (v w u : IndexView) (s t : Space) (chunks : List ChunkPlace) (added : List Key) → IsTouched d d.shape.rows to key → IsHeld key w u → IsPlacing d to v s chunks added w t → IsPlacing d to v s chunks added u t
 placing_holds d to key v w u s t chunks added touches held x =
     placing d to v u s t chunks added (named_held d to key v w u chunks added touches held (named_of d to v w s t chunks added x)) (taken_of d to v w s t chunks added x)

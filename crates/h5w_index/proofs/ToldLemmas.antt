@@ -4,6 +4,7 @@ use Rattle.std.specs.Prelude.{if◌then◌else◌}
 use Rattle.std.proofs.lemmas.Bool.{eq-eqb, ne_eqb}
 use Rattle.h5w_model.specs.Numbers.{undefined}
 use Rattle.h5w_model.specs.Findings.{Used}
+use Rattle.h5w_model.specs.Tables.{key_equal}
 use Rattle.h5w_model.specs.declared.cell.Key.{Key}
 use Rattle.h5w_space.specs.Space.{Space}
 use Rattle.h5w_cache.specs.Stores.{Store, is_changed, place_of}
@@ -15,15 +16,15 @@ use Rattle.h5w_array_laws.specs.ArrayStores as arrays
 use Rattle.h5w_array_laws.specs.ArrayImages.{StandsArray}
 use Rattle.h5w_bt.specs.declared.records.Record.{Record}
 use Rattle.h5w_bt_index.specs.Marks.{clean_of}
-use Rattle.h5w_bt_index.specs.Index.{Index, IsIndex, address_of, inserted}
-use Rattle.h5w_bt_index.proofs.Laws.{held-map, index_shaped, inserted-clean, inserted-shares}
+use Rattle.h5w_bt_index.specs.Index.{Index, IsIndex, IsThere, address_of, inserted}
+use Rattle.h5w_bt_index.proofs.Laws.{index_shaped, inserted-clean, inserted-map, inserted-shares, put-there}
 use Rattle.h5w_bt_index.proofs.Replaced.{inserted_changed, inserted_there}
 use Rattle.h5w_tree_index_laws.specs.TreeImages as trees
 use Rattle.h5w_tree_index_laws.proofs.TreeInsertLemmas.{inserted_behind}
 use Rattle.h5w_tree_index_laws.proofs.TreeMapLemmas as maps
 use Rattle.h5w_tree_index_laws.proofs.TreeStandLemmas.{never_first}
 use Rattle.h5w_index.specs.Views.{IndexView, an_array, a_tree, IsSoundTree}
-use Rattle.h5w_index.specs.Steps.{ArrayHeld, ArraySet, ArrayUnset, TreeHeld, TreeSet, blank}
+use Rattle.h5w_index.specs.Steps.{ArrayHeld, ArraySet, ArrayUnset, TreeSet, TreeUnset, blank}
 use Rattle.h5w_index.specs.Told.{HeldTells, HeldTold, IsLike, KeepsMarks, LikeLaws, SameBlocks, SameRanges, SameShares, SetTells, SetTold, UnsetTells, UnsetTold}
 use Rattle.h5w_index.proofs.ArrayBehindLemmas as by_map
 
@@ -159,24 +160,17 @@ like_laws = record {
   };
 }
 
--- ---- A place is held
+-- ---- The blocks on the way to a key are there
 
 array_held : (key : Key) (v w : Store) → ArrayHeld key.i v w → HeldTold (an_array v) (an_array w)
 array_held key v w h = record { like = array_like v w h.array h.held.places h.held.standing h.held.stands h.held.marks; map = λ k. h.held.map k.i }
 
-tree_held : (key : Key) (p q : ℕ) (v w : Index) → IsSoundTree p v → q ≡ p → TreeHeld key v w → HeldTold (a_tree p v) (a_tree q w)
-tree_held key p q v w is e h =
-    elim h.is [
-      | inl same ↦ record { like = same_tree p q v v w e same (tree_itself p v is); map = λ k. ap (λ (t : Index). address_of t k) same }
-      | inr more ↦ record {
-        like = same_tree p q v (inserted (blank key) v) w e more.1 (tree_like p v (blank key) is (subst IsIndex more.1 h.index));
-        map = λ k. ap (λ (t : Index). address_of t k) more.1 ∙ held-map v key k is.index more.0;
-      }
-    ]
+tree_held : (p q : ℕ) (v w : Index) → IsSoundTree p v → q ≡ p → w ≡ v → HeldTold (a_tree p v) (a_tree q w)
+tree_held p q v w is e same = record { like = same_tree p q v v w e same (tree_itself p v is); map = λ k. ap (λ (t : Index). address_of t k) same }
 
 pub held_tells : HeldTells
 held_tells key (an_array v) (an_array w) is h = array_held key v w h
-held_tells key (a_tree p v) (a_tree q w) is h = tree_held key p q v w is h.0 h.1
+held_tells key (a_tree p v) (a_tree q w) is h = tree_held p q v w is h.0 h.1
 held_tells key (an_array v) (a_tree q w) is h = absurd h
 held_tells key (a_tree p v) (an_array w) is h = absurd h
 
@@ -192,44 +186,55 @@ chunk_undefined : (bytes : ℕ) (key : Key) → trees.chunk_of bytes (blank key)
 chunk_undefined bytes key = ap (λ b. if b then [] else chunk_at undefined bytes ∷ []) (eq-eqb undefined undefined refl)
 
 tree_set_like : (p q : ℕ) (v w : Index) (x : Record) → IsSoundTree p v → q ≡ p → TreeSet x v w → IsLike (a_tree p v) (a_tree q w)
-tree_set_like p q v w x is e h = same_tree p q v (inserted x v) w e h.is (tree_like p v x is (subst IsIndex h.is h.replaced.index))
+tree_set_like p q v w x is e h = same_tree p q v (inserted x v) w e h.is (tree_like p v x is (subst IsIndex h.is h.index))
 
 tree_set_behind : (v w : Index) (x : Record) (bytes : ℕ) → IsIndex v → TreeSet x v w → array_words.AreAmong (trees.behind_of bytes w) (trees.chunk_of bytes x ++ trees.behind_of bytes v)
 tree_set_behind v w x bytes i h =
     let us : List Used = trees.chunk_of bytes x ++ trees.behind_of bytes v in
-    subst (λ (t : Index). array_words.AreAmong (trees.behind_of bytes t) us) (sym h.is) (as_among (trees.behind_of bytes (inserted x v)) us (inserted_behind x v bytes i (subst IsIndex h.is h.replaced.index)))
+    subst (λ (t : Index). array_words.AreAmong (trees.behind_of bytes t) us) (sym h.is) (as_among (trees.behind_of bytes (inserted x v)) us (inserted_behind x v bytes i (subst IsIndex h.is h.index)))
+
+tree_set_map : (v w : Index) (x : Record) (key : Key) → IsIndex v → TreeSet x v w → address_of w key ≡ (if key_equal x.key key then x.address else address_of v key)
+tree_set_map v w x key i h = ap (λ (t : Index). address_of t key) h.is ∙ inserted-map x v key i
+
+tree_set_slot : (v w : Index) (x : Record) → IsIndex v → TreeSet x v w → IsThere w x.key
+tree_set_slot v w x i h = subst (λ (t : Index). IsThere t x.key) (sym h.is) (put-there x v i)
 
 array_set : (key : Key) (address : ℕ) (v w : Store) → ArraySet key.i address v w → SetTold key address (an_array v) (an_array w)
-array_set key address v w h = record { like = array_like v w h.array h.set.places h.set.standing h.set.stands h.set.marks; map = λ k. h.set.map k.i; behind = h.set.behind }
+array_set key address v w h = record { like = array_like v w h.array h.set.places h.set.standing h.set.stands h.set.marks; slot = h.slot; map = λ k. h.set.map k.i; behind = h.set.behind }
 
 tree_set : (key : Key) (address p q : ℕ) (v w : Index) → IsSoundTree p v → address ≢ undefined → q ≡ p → TreeSet (record { address = address; key = key }) v w → SetTold key address (a_tree p v) (a_tree q w)
 tree_set key address p q v w is ne e h =
     let x : Record = record { address = address; key = key } in
     record {
       like = tree_set_like p q v w x is e h;
-      map = h.replaced.map;
+      slot = tree_set_slot v w x is.index h;
+      map = λ k. tree_set_map v w x k is.index h;
       behind = λ bytes. subst (λ (us : List Used). array_words.AreAmong (trees.behind_of bytes w) (us ++ trees.behind_of bytes v)) (chunk_defined bytes x ne) (tree_set_behind v w x bytes is.index h);
     }
 
 pub set_tells : SetTells
-set_tells key address (an_array v) (an_array w) is slot ne h = array_set key address v w h
-set_tells key address (a_tree p v) (a_tree q w) is slot ne h = tree_set key address p q v w is ne h.0 h.1
-set_tells key address (an_array v) (a_tree q w) is slot ne h = absurd h
-set_tells key address (a_tree p v) (an_array w) is slot ne h = absurd h
+set_tells key address (an_array v) (an_array w) is ne h = array_set key address v w h
+set_tells key address (a_tree p v) (a_tree q w) is ne h = tree_set key address p q v w is ne h.0 h.1
+set_tells key address (an_array v) (a_tree q w) is ne h = absurd h
+set_tells key address (a_tree p v) (an_array w) is ne h = absurd h
 
 array_unset : (key : Key) (v w : Store) → ArrayUnset key.i v w → UnsetTold key (an_array v) (an_array w)
 array_unset key v w h = record { like = array_like v w h.array h.unset.places h.unset.standing h.unset.stands h.unset.marks; map = λ k. h.unset.map k.i; behind = h.unset.behind }
 
+-- a record is put that has no address
+pub unset_record : (key : Key) (v w : Index) → TreeUnset key v w → TreeSet (blank key) v w
+unset_record key v w h = record { is = h.is; index = h.replaced.index }
+
 tree_unset : (key : Key) (p q : ℕ) (v w : Index) → IsSoundTree p v → q ≡ p → TreeSet (blank key) v w → UnsetTold key (a_tree p v) (a_tree q w)
 tree_unset key p q v w is e h = record {
   like = tree_set_like p q v w (blank key) is e h;
-  map = h.replaced.map;
+  map = λ k. tree_set_map v w (blank key) k is.index h;
   behind = λ bytes. subst (λ (us : List Used). array_words.AreAmong (trees.behind_of bytes w) (us ++ trees.behind_of bytes v)) (chunk_undefined bytes key) (tree_set_behind v w (blank key) bytes is.index h);
 }
 
 pub unset_tells : UnsetTells
 unset_tells key (an_array v) (an_array w) is slot h = array_unset key v w h
-unset_tells key (a_tree p v) (a_tree q w) is slot h = tree_unset key p q v w is h.0 h.1
+unset_tells key (a_tree p v) (a_tree q w) is slot h = tree_unset key p q v w is h.0 (unset_record key v w h.1)
 unset_tells key (an_array v) (a_tree q w) is slot h = absurd h
 unset_tells key (a_tree p v) (an_array w) is slot h = absurd h
 

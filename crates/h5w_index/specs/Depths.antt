@@ -25,7 +25,7 @@ pub record DepthLaws : Type 0 where
   pub none : (bands across place : ℕ) → AreWithin bands across (a_tree place no_tree)
   pub more : (bands across later : ℕ) (v : IndexView) → bands ≤ later → AreWithin bands across v → AreWithin later across v
   pub held : (bands across : ℕ) (key : Key) (v w : IndexView) → IsSound v → key.i < bands → key.j < across → IsHeld key v w → AreWithin bands across v → AreWithin bands across w
-  pub set : (bands across : ℕ) (key : Key) (address : ℕ) (v w : IndexView) → IsSound v → HasSlot v key → IsSet key address v w → AreWithin bands across v → AreWithin bands across w
+  pub set : (bands across : ℕ) (key : Key) (address : ℕ) (v w : IndexView) → IsSound v → key.i < bands → key.j < across → IsSet key address v w → AreWithin bands across v → AreWithin bands across w
   pub unset : (bands across : ℕ) (key : Key) (v w : IndexView) → IsSound v → HasSlot v key → IsUnset key v w → AreWithin bands across v → AreWithin bands across w
   pub planned : (bands across : ℕ) (v : IndexView) (s : Space) (ms : List Move) (copies fixed : List Write) (w : IndexView) (t : Space) → IsPlan v s ms copies fixed w t → AreWithin bands across v → AreWithin bands across w
   pub shallow : (bands across : ℕ) (key : Key) (v : IndexView) → IsSound v → AreWithin bands across v → bands * across ≤ 1114348 → IsDeep v key → ⊥

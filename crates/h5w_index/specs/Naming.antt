@@ -14,7 +14,7 @@ use Rattle.h5w_chunks.specs.declared.grid.ChunkPlace.{ChunkPlace}
 use Rattle.h5w_array_laws.specs.Among.{AreAmong}
 use Rattle.h5w_flush_laws.specs.Spaces.{Taken}
 use Rattle.h5w_flush_laws.specs.Rows.{IsPlaced, new_chunks}
-use Rattle.h5w_index.specs.Views.{IndexView, HasSlot, IsReached, IsSound, address_in, behind_of, is_key}
+use Rattle.h5w_index.specs.Views.{IndexView, IsReached, IsSound, address_in, behind_of, is_key}
 use Rattle.h5w_index.specs.Steps.{IsHeld, IsSet}
 use Rattle.h5w_index.specs.Marks.{IsRaised, IsTouched}
 use Rattle.h5w_index.specs.Placing.{AllPlaced, Fits, IsCopy, IsPartly, IsPlacing, TakesEach, next_key}
@@ -69,11 +69,11 @@ pub record NamingLaws : Type 0 where
   -- the next is named already, and readers look for it
   pub named_stored : (d : Described) (to : ℕ) (v w : IndexView) (chunks : List ChunkPlace) (added : List Key) (p : ChunkPlace) → Fits d v → address_in w (next_key d chunks) ≡ p.address → p.address ≢ undefined
       → (p.stored ≡ false → d.shape.rows ≤ touched_band d d.shape.rows (length chunks) * d.layout.chunk_rows) → IsReached w (next_key d chunks) → AreNamed d to v chunks added w → AreNamed d to v (chunks ++ p ∷ []) added w
-  -- the next is not: a place is held for it in the index, which names it
-  pub named_new : (d : Described) (to : ℕ) (v w h u : IndexView) (chunks : List ChunkPlace) (added : List Key) (p : ChunkPlace) → Fits d v → length chunks < touched d d.shape.rows to
-      → address_in w (next_key d chunks) ≡ undefined → p.stored ≡ false → p.address ≢ undefined → IsHeld (next_key d chunks) w h → HasSlot h (next_key d chunks)
-      → IsSet (next_key d chunks) p.address h u → AreNamed d to v chunks added w → AreNamed d to v (chunks ++ p ∷ []) (added ++ next_key d chunks ∷ []) u
-  -- a place is held for one of the chunks, and nothing else
+  -- the next is not: the index names it
+  pub named_new : (d : Described) (to : ℕ) (v w u : IndexView) (chunks : List ChunkPlace) (added : List Key) (p : ChunkPlace) → Fits d v → length chunks < touched d d.shape.rows to
+      → address_in w (next_key d chunks) ≡ undefined → p.stored ≡ false → p.address ≢ undefined
+      → IsSet (next_key d chunks) p.address w u → AreNamed d to v chunks added w → AreNamed d to v (chunks ++ p ∷ []) (added ++ next_key d chunks ∷ []) u
+  -- the blocks on the way to one of the chunks are there, and nothing else
   pub named_held : (d : Described) (to : ℕ) (key : Key) (v w u : IndexView) (chunks : List ChunkPlace) (added : List Key) → IsTouched d d.shape.rows to key → IsHeld key w u → AreNamed d to v chunks added w
       → AreNamed d to v chunks added u
   -- all are named: each other key gives what it gave

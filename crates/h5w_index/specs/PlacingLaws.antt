@@ -13,7 +13,7 @@ use Rattle.h5w_chunks.specs.Grids.{chunk_len}
 use Rattle.h5w_chunks.specs.Shares.{touched, touched_band}
 use Rattle.h5w_chunks.specs.declared.grid.ChunkPlace.{ChunkPlace}
 use Rattle.h5w_header_laws.specs.Files.{with_rows}
-use Rattle.h5w_index.specs.Views.{IndexView, HasSlot, IsReached, IsSound, address_in}
+use Rattle.h5w_index.specs.Views.{IndexView, IsReached, IsSound, address_in}
 use Rattle.h5w_index.specs.Steps.{IsBegun, IsHeld, IsPlan, IsSet, IsUnset, ListsOnce}
 use Rattle.h5w_index.specs.declared.begun.Begun.{Begun}
 use Rattle.h5w_index.specs.Told.{HeldTold, SameMap}
@@ -28,14 +28,14 @@ pub record PlacingLaws : Type 0 where
   -- the next has its place already, and readers look for it
   pub stored : (d : Described) (to : ℕ) (v w : IndexView) (s t : Space) (chunks : List ChunkPlace) (added : List Key) (p : ChunkPlace) → Fits d v → address_in w (next_key d chunks) ≡ p.address → p.address ≢ undefined
       → (p.stored ≡ false → d.shape.rows ≤ touched_band d d.shape.rows (length chunks) * d.layout.chunk_rows) → IsReached w (next_key d chunks) → AreInside d s.end v → IsPlacing d to v s chunks added w t → IsPlacing d to v s (chunks ++ p ∷ []) added w t
-  -- a place is held for one of the chunks, and nothing else
+  -- the blocks on the way to one of the chunks are there, and nothing else
   pub holds : (d : Described) (to : ℕ) (key : Key) (v w u : IndexView) (s t : Space) (chunks : List ChunkPlace) (added : List Key) → IsTouched d d.shape.rows to key → IsHeld key w u → IsPlacing d to v s chunks added w t
       → IsPlacing d to v s chunks added u t
-  -- the next has none: a place is held for it in the index and one is taken in the file, and the index names it
-  pub new : (d : Described) (to : ℕ) (v w h u : IndexView) (s t next : Space) (chunks : List ChunkPlace) (added : List Key) (p : ChunkPlace) → Fits d v → 0 < chunk_len d → length chunks < touched d d.shape.rows to
-      → address_in w (next_key d chunks) ≡ undefined → p.stored ≡ false → p.address ≢ undefined → IsHeld (next_key d chunks) w h → HasSlot h (next_key d chunks) → Took t next (extent p.address (chunk_len d))
-      → IsSet (next_key d chunks) p.address h u → IsPlacing d to v s chunks added w t → IsPlacing d to v s (chunks ++ p ∷ []) (added ++ next_key d chunks ∷ []) u next
-  -- a place is held, and then the call is refused
+  -- the next has none: one is taken in the file, and the index names it
+  pub new : (d : Described) (to : ℕ) (v w u : IndexView) (s t next : Space) (chunks : List ChunkPlace) (added : List Key) (p : ChunkPlace) → Fits d v → 0 < chunk_len d → length chunks < touched d d.shape.rows to
+      → address_in w (next_key d chunks) ≡ undefined → p.stored ≡ false → p.address ≢ undefined → Took t next (extent p.address (chunk_len d))
+      → IsSet (next_key d chunks) p.address w u → IsPlacing d to v s chunks added w t → IsPlacing d to v s (chunks ++ p ∷ []) (added ++ next_key d chunks ∷ []) u next
+  -- they are there, and then the call is refused
   pub held : (d : Described) (to : ℕ) (key : Key) (v w u : IndexView) (added : List Key) → IsTouched d d.shape.rows to key → IsHeld key w u → IsPartly d to v added w → IsPartly d to v added u
   -- after a refusal what was set is taken back, and then the index is as before, but that places are held
   pub unset : (d : Described) (to : ℕ) (key : Key) (v w u : IndexView) (added : List Key) → IsUnset key w u → IsPartly d to v (key ∷ added) w → IsPartly d to v added u

@@ -1,5 +1,5 @@
 -- What the calls make of an index, kind by kind.
-use Rattle.std.specs.Prelude.{◌≡◌, ◌⊎◌, ℕ, ◌+◌, ◌≤◌, ◌==◌, max, List, length, None, Option, Some, if◌then◌else◌}
+use Rattle.std.specs.Prelude.{◌≡◌, ℕ, ◌+◌, ◌<◌, ◌≤◌, max, true, List, length}
 use Rattle.h5w_model.specs.Numbers.{undefined}
 use Rattle.h5w_model.specs.declared.cell.Key.{Key}
 use Rattle.h5w_model.specs.declared.piece.Write.{Write}
@@ -7,27 +7,26 @@ use Rattle.h5w_space.specs.Space.{Space}
 use Rattle.h5w_space.specs.declared.Full.{Full}
 use Rattle.h5w_cache.specs.Plans as block_plans
 use Rattle.h5w_cache.specs.Plans.{HasNoRoom}
-use Rattle.h5w_cache.specs.Stores.{Store, times}
+use Rattle.h5w_cache.specs.Stores.{Store, is_changed, times}
 use Rattle.h5w_cache.specs.Starts as stores
 use Rattle.h5w_cache.specs.declared.moves.Move.{Move}
-use Rattle.h5w_array_laws.specs.Parts.{holder}
+use Rattle.h5w_array_laws.specs.Parts.{holder, number_of}
 use Rattle.h5w_array_laws.specs.ArrayStores.{IsArray, IsNumbered}
 use Rattle.h5w_array_laws.specs.ArrayPlans.{IsArrayPlan}
 use Rattle.h5w_ea_index.specs.Steps as slots
 use Rattle.h5w_ea_index.specs.Reach.{KeepsReach, max_index_set}
 use Rattle.h5w_bt.specs.declared.records.Record.{Record}
-use Rattle.h5w_bt_nodes.specs.Nodes.{address_in}
 use Rattle.h5w_bt_index.specs.Index as trees
-use Rattle.h5w_bt_index.specs.Index.{Index, IsReplaced, inserted, records}
+use Rattle.h5w_bt_index.specs.Index.{Index, IsReplaced, inserted}
 use Rattle.h5w_bt_nodes.specs.Blocks.{changes}
 use Rattle.h5w_bt_index.specs.Plans as nodes
 use Rattle.h5w_index.specs.Views.{IndexView, an_array, a_tree}
 use Rattle.h5w_index.specs.declared.begun.Begun.{Begun}
 use Rattle.h5w_index.specs.declared.begun.Begun.TheVariants.{Array, Tree}
 
--- ---- A place is held for a key
+-- ---- The blocks on the way to a key
 
--- The blocks on the way to a slot are there; map and ranges stay. The max index set is no less.
+-- They are there, in an array; map and ranges stay. The max index set is no less.
 pub record ArrayHeld (i : ℕ) (v w : Store) : Type 0 where
   pub held : slots.IsHeld v w
   pub reach : max_index_set v ≤ max_index_set w
@@ -35,19 +34,10 @@ pub record ArrayHeld (i : ℕ) (v w : Store) : Type 0 where
   pub array : IsArray w
   pub numbered : IsNumbered v → IsNumbered w
 
--- a record without an address
-abbrev pub blank : Key → Record
-blank key = record { address = undefined; key = key }
-
--- The tree is as it was, or has a record of the key more, without an address.
-pub record TreeHeld (key : Key) (v w : Index) : Type 0 where
-  pub is : (w ≡ v) ⊎ ((address_in key (records v) ≡ None) × (w ≡ inserted (blank key) v))
-  pub index : trees.IsIndex w
-  pub shares : trees.KeepsShares v w
-
+-- a tree is as it was
 abbrev pub IsHeld : Key → IndexView → IndexView → Type 0
 IsHeld key (an_array v) (an_array w) = ArrayHeld key.i v w
-IsHeld key (a_tree p v) (a_tree q w) = (q ≡ p) × TreeHeld key v w
+IsHeld key (a_tree p v) (a_tree q w) = (q ≡ p) × (w ≡ v)
 IsHeld key (an_array v) (a_tree q w) = ⊥
 IsHeld key (a_tree p v) (an_array w) = ⊥
 
@@ -56,13 +46,14 @@ abbrev pub IsDeep : IndexView → Key → Type 0
 IsDeep (an_array v) key = ⊥
 IsDeep (a_tree p v) key = trees.IsDeep v key
 
--- ---- A chunk that has its place gets an address, or has none again
+-- ---- A chunk gets an address, or has none again
 
--- the max index set is above it
+-- the blocks on the way to its slot are there, and the max index set is above it
 pub record ArraySet (i address : ℕ) (v w : Store) : Type 0 where
   pub set : slots.IsSet i address v w
+  pub slot : (i < 131060) × (is_changed w (number_of (holder i)) ≡ true)
   pub reach : max_index_set w ≡ max (max_index_set v) (i + 1)
-  pub way : slots.Touches (slots.IsSlotOrHeader i) v w
+  pub way : slots.Touches (slots.OnWay (holder i)) v w
   pub array : IsArray w
   pub numbered : IsNumbered v → IsNumbered w
 
@@ -73,10 +64,10 @@ pub record ArrayUnset (i : ℕ) (v w : Store) : Type 0 where
   pub array : IsArray w
   pub numbered : IsNumbered v → IsNumbered w
 
--- the record of the key is another
+-- a record is in the place of the one with its key, or is one more
 pub record TreeSet (x : Record) (v w : Index) : Type 0 where
   pub is : w ≡ inserted x v
-  pub replaced : IsReplaced x v w
+  pub index : trees.IsIndex w
 
 abbrev pub IsSet : Key → ℕ → IndexView → IndexView → Type 0
 IsSet key address (an_array v) (an_array w) = ArraySet key.i address v w
@@ -84,9 +75,18 @@ IsSet key address (a_tree p v) (a_tree q w) = (q ≡ p) × TreeSet (record { add
 IsSet key address (an_array v) (a_tree q w) = ⊥
 IsSet key address (a_tree p v) (an_array w) = ⊥
 
+-- a record without an address
+abbrev pub blank : Key → Record
+blank key = record { address = undefined; key = key }
+
+-- the record of the key is another
+pub record TreeUnset (key : Key) (v w : Index) : Type 0 where
+  pub is : w ≡ inserted (blank key) v
+  pub replaced : IsReplaced (blank key) v w
+
 abbrev pub IsUnset : Key → IndexView → IndexView → Type 0
 IsUnset key (an_array v) (an_array w) = ArrayUnset key.i v w
-IsUnset key (a_tree p v) (a_tree q w) = (q ≡ p) × TreeSet (blank key) v w
+IsUnset key (a_tree p v) (a_tree q w) = (q ≡ p) × TreeUnset key v w
 IsUnset key (an_array v) (a_tree q w) = ⊥
 IsUnset key (a_tree p v) (an_array w) = ⊥
 

@@ -56,14 +56,15 @@ SameMap v w = (key : Key) → address_in w key ≡ address_in v key
 abbrev pub MapsTo : Key → ℕ → IndexView → IndexView → Type 0
 MapsTo key address v w = (other : Key) → address_in w other ≡ (if is_key v key other then address else address_in v other)
 
--- a place is held: the map stays
+-- the blocks on the way to a key are there: the map stays
 pub record HeldTold (v w : IndexView) : Type 0 where
   pub like : IsLike v w
   pub map : SameMap v w
 
--- a chunk got an address: of ranges there is its own more, and none other
+-- a chunk got an address, and the place for it is held: of ranges there is its own more, and none other
 pub record SetTold (key : Key) (address : ℕ) (v w : IndexView) : Type 0 where
   pub like : IsLike v w
+  pub slot : HasSlot w key
   pub map : MapsTo key address v w
   pub behind : (bytes : ℕ) → AreAmong (behind_of bytes w) (chunk_at address bytes ∷ behind_of bytes v)
 
@@ -79,7 +80,7 @@ abbrev pub HeldTells : Type 0
 HeldTells = (key : Key) (v w : IndexView) → IsSound v → IsHeld key v w → HeldTold v w
 
 abbrev pub SetTells : Type 0
-SetTells = (key : Key) (address : ℕ) (v w : IndexView) → IsSound v → HasSlot v key → address ≢ undefined → IsSet key address v w → SetTold key address v w
+SetTells = (key : Key) (address : ℕ) (v w : IndexView) → IsSound v → address ≢ undefined → IsSet key address v w → SetTold key address v w
 
 abbrev pub UnsetTells : Type 0
 UnsetTells = (key : Key) (v w : IndexView) → IsSound v → HasSlot v key → IsUnset key v w → UnsetTold key v w

@@ -9,7 +9,7 @@ ghost use Rattle.h5w_bt_index.specs.Index.{IsIndex, KeepsShares, no_tree};
 ghost use Rattle.h5w_index.specs.Held.{view_of};
 ghost use Rattle.h5w_index.specs.Views.{HasSlot, IsClean, IsReached, IsSound, TakesKey, a_tree, address_in, an_array};
 ghost use Rattle.h5w_ea_index.specs.Steps.{found};
-ghost use Rattle.h5w_index.specs.Steps.{HasNoPlace, IsBegun, IsDeep, IsHeld, IsPlan, IsSet, IsUnset, ListsOnce, TookSome, WasBegun, copy_pieces, in_place_pieces, moves_of};
+ghost use Rattle.h5w_index.specs.Steps.{ArrayHeld, ArraySet, HasNoPlace, IsBegun, IsDeep, IsHeld, IsPlan, IsSet, IsUnset, ListsOnce, TookSome, WasBegun, copy_pieces, in_place_pieces, moves_of};
 
 use crate::begun::Begun;
 use h5w_bt_index::{InsertError, Key, TreeIndex};
@@ -26,6 +26,19 @@ pub enum Index {
     Array(ArrayIndex),
     /// A version 2 B-tree.
     Tree(TreeIndex),
+}
+
+/// A chunk of an array has this address from now on: the blocks on the way to it are there first.
+fn insert_in_array(index: &mut ArrayIndex, i: u64, address: u64) -> Result<(), OutOfMemory>
+    requires below { i < 131060 }
+    requires defined { address ≢ undefined }
+    ensures set { OnOk result (ArraySet i address index.old index.new) }
+    ensures held { OnErr result (ArrayHeld i index.old index.new) }
+    ensures array { IsArray index.new }
+{
+    index.hold(i)?;
+    index.set(i, address);
+    Ok(())
 }
 
 impl Index {
@@ -61,41 +74,39 @@ impl Index {
         }
     }
 
-    /// Holds a place for a chunk: what is written for it is there and changed from now on. What each key gives stays, and so do all
-    /// ranges, also where memory ran out. Deep comes exactly where a tree of depth 3 has no record of the key, and no room on the way to it.
+    /// Whether a tree of depth 3 has no record of the key, and no room on the way to it: then [`Index::insert`] refuses it.
     #[tactic(auto, using(h5w_bt_index::proofs::Laws::index_shaped))]
-    pub fn hold(&mut self, key: Key) -> Result<(), InsertError>
+    pub fn is_deep(&self, key: Key) -> bool
+        requires { IsSound (view_of self.now) }
+        ensures exact { IsTrue result ↔ IsDeep (view_of self.now) key }
+    {
+        match self {
+            Index::Array(_) => false,
+            Index::Tree(index) => index.is_deep(key),
+        }
+    }
+
+    /// A chunk has this address from now on, and each other one that which it had. What is written for it is there and changed then.
+    ///
+    /// Deep comes exactly where a tree of depth 3 has no record of the key, and no room on the way to it. After a refusal each key gives what
+    /// it gave, and all ranges stay; of an array blocks on the way to the chunk may be there that were not.
+    #[tactic(auto, using(h5w_bt_index::proofs::Laws::index_shaped))]
+    pub fn insert(&mut self, key: Key, address: u64) -> Result<(), InsertError>
         requires sound { IsSound (view_of self.old) }
         requires key { TakesKey (view_of self.old) key }
+        requires defined { address ≢ undefined }
         ensures sound { IsSound (view_of self.new) }
-        ensures held { IsHeld key (view_of self.old) (view_of self.new) }
-        ensures slot { OnOk result (HasSlot (view_of self.new) key) }
+        ensures set { OnOk result (IsSet key address (view_of self.old) (view_of self.new)) }
+        ensures held { OnErr result (IsHeld key (view_of self.old) (view_of self.new)) }
         ensures deep { IfErr result (λ e. e ≡ InsertError.Deep → IsDeep (view_of self.old) key) }
         ensures refused { IsDeep (view_of self.old) key → result ≡ Err InsertError.Deep }
     {
         match self {
             Index::Array(index) => {
-                index.hold(key.i)?;
+                insert_in_array(index, key.i, address)?;
                 Ok(())
             }
-            Index::Tree(index) => index.hold(key),
-        }
-    }
-
-    /// A chunk, for which a place is held, has this address from now on, and each other one that which it had.
-    ///
-    /// It takes no memory, and cannot fail.
-    #[tactic(auto, using(h5w_bt_index::proofs::Laws::index_shaped))]
-    pub fn set(&mut self, key: Key, address: u64)
-        requires sound { IsSound (view_of self.old) }
-        requires slot { HasSlot (view_of self.old) key }
-        requires defined { address ≢ undefined }
-        ensures sound { IsSound (view_of self.new) }
-        ensures set { IsSet key address (view_of self.old) (view_of self.new) }
-    {
-        match self {
-            Index::Array(index) => index.set(key.i, address),
-            Index::Tree(index) => index.set(key, address),
+            Index::Tree(index) => index.insert(key, address),
         }
     }
 

@@ -15,10 +15,10 @@ use Rattle.h5w_space.specs.Space.{Space, TakesEnd, TakesFree, TakesPlace}
 use Rattle.h5w_space.specs.declared.Extent.{Extent}
 use Rattle.h5w_space.specs.declared.Full.{Full}
 use Rattle.h5w_step_laws.proofs.MomentLemmas.{one_more}
-use Rattle.h5w_index.specs.Views.{HasSlot, IndexView, IsSound}
-use Rattle.h5w_index.specs.Steps.{IsDeep, IsHeld, IsSet}
+use Rattle.h5w_index.specs.Views.{IndexView, IsSound}
+use Rattle.h5w_index.specs.Steps.{IsDeep, IsSet}
 use Rattle.h5w_index.proofs.DepthLemmas.{depth_laws}
-use Rattle.h5w_index.proofs.ToldLemmas.{held_tells, set_tells}
+use Rattle.h5w_index.proofs.ToldLemmas.{set_tells}
 use Rattle.h5w_packing_laws.specs.Growing.{AreNamed, IsNamedNext, IsTight, named_from}
 use Rattle.h5w_packing_laws.proofs.MapLemmas.{chunk_there, chunk_absent}
 use Rattle.h5w_packing.specs.Plans.{IsChunkOut, IsNextOut, IsOfKind, TakesAll, chunks_end, copied_from, key_lines, packed_table}
@@ -68,14 +68,12 @@ tight_place s t r tight k = go k.by
 pub not_deep : (d : Described) (n : ℕ) (v : IndexView) → IsSound v → IsOfKind d v → needed d ≤ limit_of format_limits d.layout.index → IsDeep v (index_key d n) → ⊥
 not_deep d n v sound kind few deep = depth_laws.shallow (key_lines d) (keys_across d) (index_key d n) v sound kind.within (lines_few d few) deep
 
-pub kind_stays : (d : Described) (n address : ℕ) (u v w : IndexView) → n < needed d → IsSound u → IsSound v → IsOfKind d u → IsHeld (index_key d n) u v → HasSlot v (index_key d n) → address ≢ undefined → IsSet (index_key d n) address v w → IsOfKind d w
-kind_stays d n address u v w low sound_u sound_v kind held slot defined sets =
+pub kind_stays : (d : Described) (n address : ℕ) (v w : IndexView) → n < needed d → IsSound v → IsOfKind d v → address ≢ undefined → IsSet (index_key d n) address v w → IsOfKind d w
+kind_stays d n address v w low sound kind defined sets =
     let key : Key = index_key d n in
-    let first = held_tells key u v sound_u held in
-    let second = set_tells key address v w sound_v slot defined sets in
     record {
-      kind = kind.kind ∙ sym first.like.kind ∙ sym second.like.kind;
-      within = depth_laws.set (key_lines d) (keys_across d) key address v w sound_v slot sets (depth_laws.held (key_lines d) (keys_across d) key u v sound_u (key_low d n low) (key_side d n low) held kind.within);
+      kind = kind.kind ∙ sym (set_tells key address v w sound defined sets).like.kind;
+      within = depth_laws.set (key_lines d) (keys_across d) key address v w sound (key_low d n low) (key_side d n low) sets kind.within;
     }
 
 -- ---- One after another

@@ -59,13 +59,11 @@ fn place_chunk(
 {
     let key = key_of(grid, number);
     let address = places.take(grid.chunk_len()).map_err(PlanError::Full)?;
-    match index.hold(key) {
-        Ok(()) => {}
+    match index.insert(key, address) {
+        Ok(()) => Ok(address),
         Err(InsertError::Deep) => unreachable!(),
-        Err(InsertError::OutOfMemory) => return Err(PlanError::OutOfMemory),
+        Err(InsertError::OutOfMemory) => Err(PlanError::OutOfMemory),
     }
-    index.set(key, address);
-    Ok(address)
 }
 
 /// Puts a chunk behind others.

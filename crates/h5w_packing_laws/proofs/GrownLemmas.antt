@@ -1,5 +1,5 @@
 -- An index in which chunks are named, one after another.
-use Rattle.std.proofs.Common.{◌≡◌, ◌⊎◌, ℕ, List, [], ◌∷◌, ◌++◌, refl, sym, ◌∙◌, ap, ap₂, subst, inl, inr, arith}
+use Rattle.std.proofs.Common.{◌≡◌, ◌⊎◌, ℕ, List, [], ◌∷◌, ◌++◌, refl, sym, ◌∙◌, ap, subst, inl, inr, arith}
 use Rattle.std.specs.Prelude.{if◌then◌else◌}
 use Rattle.std.specs.List.{All}
 use Rattle.std.proofs.lemmas.List.Elements.{All-cons, All-nil}
@@ -11,10 +11,9 @@ use Rattle.h5w_step_laws.proofs.PartLemmas.{count_joined}
 use Rattle.h5w_array_laws.specs.Among.{AreAmong}
 use Rattle.h5w_array_laws.proofs.AmongLemmas.{part_itself, part_joined, part_onward}
 use Rattle.h5w_index.specs.Views.{IndexView, HasSlot, IsSound, address_in, behind_of, is_key}
-use Rattle.h5w_index.specs.Told.{IsLike, SetTold}
-use Rattle.h5w_index.proofs.NamingLemmas.{same_among}
-use Rattle.h5w_index.proofs.ToldLemmas.{held_tells, like_laws, same_ranges, set_tells}
-use Rattle.h5w_packing_laws.specs.Growing.{AreNamed, IsNamedNext}
+use Rattle.h5w_index.specs.Told.{IsLike}
+use Rattle.h5w_index.proofs.ToldLemmas.{like_laws, set_tells}
+use Rattle.h5w_packing_laws.specs.Growing.{AreNamed}
 
 -- the ranges of chunks of so many bytes, by key and address
 abbrev pub chunks_of : ℕ → List (Key × ℕ) → List Used
@@ -25,27 +24,6 @@ chunks_of bytes (a ∷ cs) = chunk_at a.1 bytes ∷ chunks_of bytes cs
 abbrev pub address_after : IndexView → List (Key × ℕ) → Key → ℕ → ℕ
 address_after u [] key old = old
 address_after u (a ∷ cs) key old = address_after u cs key (if is_key u a.0 key then a.1 else old)
-
--- what one more tells
-record OneTold (v : IndexView) (a : Key × ℕ) (w : IndexView) : Type 0 where
-  told : SetTold a.0 a.1 v w
-  slot : HasSlot w a.0
-
-one_told : (v : IndexView) (a : Key × ℕ) (w : IndexView) → IsSound v → IsNamedNext v a w → OneTold v a w
-one_told v a w is n =
-    let h = held_tells a.0 v n.held is n.holds in
-    let s = set_tells a.0 a.1 n.held w h.like.sound n.slot n.defined n.sets in
-    record {
-      told = record {
-        like = like_laws.onward v n.held w h.like s.like;
-        map = λ other. s.map other ∙ ap₂ (λ b (x : ℕ). if b then a.1 else x) (h.like.one a.0 other) (h.map other);
-        behind = λ bytes.
-            let c : List Used = chunk_at a.1 bytes ∷ [] in
-            part_onward (behind_of bytes w) (c ++ behind_of bytes n.held) (c ++ behind_of bytes v) (s.behind bytes)
-            (part_joined c (behind_of bytes n.held) c (behind_of bytes v) (part_itself c) (same_among (behind_of bytes n.held) (behind_of bytes v) (same_ranges v n.held bytes is h.like h.map)));
-      };
-      slot = s.like.slots a.0 n.slot;
-    }
 
 -- the same where another index takes the same keys for one
 same_after : (u w : IndexView) (cs : List (Key × ℕ)) (key : Key) (old : ℕ) → ((k other : Key) → is_key w k other ≡ is_key u k other) → address_after w cs key old ≡ address_after u cs key old
@@ -74,17 +52,17 @@ pub grown : (u : IndexView) (cs : List (Key × ℕ)) (v : IndexView) → IsSound
 grown u [] v is e =
     subst (GrownTold u []) (sym e) (record { like = like_laws.itself u is; map = λ key. refl; behind = λ bytes. part_itself (behind_of bytes u); slots = All-nil (λ (a : Key × ℕ). HasSlot u a.0) })
 grown u (a ∷ cs) v is n =
-    let first = one_told u a n.0 is n.1 in
-    let like = first.told.like in
+    let first = set_tells a.0 a.1 u n.0 is n.1.defined n.1.sets in
+    let like = first.like in
     let rest = grown n.0 cs v like.sound n.2 in
     record {
       like = like_laws.onward u n.0 v like rest.like;
-      map = λ key. rest.map key ∙ ap (λ x. address_after n.0 cs key x) (first.told.map key) ∙ same_after u n.0 cs key (if is_key u a.0 key then a.1 else address_in u key) like.one;
+      map = λ key. rest.map key ∙ ap (λ x. address_after n.0 cs key x) (first.map key) ∙ same_after u n.0 cs key (if is_key u a.0 key then a.1 else address_in u key) like.one;
       behind = λ bytes.
           let c : Used = chunk_at a.1 bytes in
           let ranges : List Used = chunks_of bytes cs in
           let old : List Used = behind_of bytes u in
           part_onward (behind_of bytes v) (ranges ++ behind_of bytes n.0) (c ∷ (ranges ++ old)) (rest.behind bytes)
-          (part_onward (ranges ++ behind_of bytes n.0) (ranges ++ (c ∷ old)) (c ∷ (ranges ++ old)) (part_joined ranges (behind_of bytes n.0) ranges (c ∷ old) (part_itself ranges) (first.told.behind bytes)) (moved_front c ranges old));
+          (part_onward (ranges ++ behind_of bytes n.0) (ranges ++ (c ∷ old)) (c ∷ (ranges ++ old)) (part_joined ranges (behind_of bytes n.0) ranges (c ∷ old) (part_itself ranges) (first.behind bytes)) (moved_front c ranges old));
       slots = All-cons (λ (x : Key × ℕ). HasSlot v x.0) a cs (rest.like.slots a.0 first.slot) rest.slots;
     }

@@ -31,11 +31,11 @@ use Rattle.h5w_array_laws.specs.ArrayImages.{StandsArray}
 use Rattle.h5w_array_laws.specs.ArrayPlans.{IsArrayPlan}
 use Rattle.h5w_array_laws.proofs.CreatedLemmas.{created_stands, created_starts}
 use Rattle.h5w_array_laws.proofs.PlannedLemmas.{is_marked}
-use Rattle.h5w_starting_laws.specs.Starting.{IsBlank}
-use Rattle.h5w_starting_laws.specs.StartFlushes.{HasStartingPart}
-use Rattle.h5w_starting_laws.proofs.FirstLemmas.{all_written}
-use Rattle.h5w_starting_laws.proofs.StartLemmas.{blank_standing, created_blank}
-use Rattle.h5w_starting_laws.proofs.StartPieceLemmas.{holder_changed, start_part}
+use Rattle.h5w_first_flush_laws.specs.Starting.{IsBlank}
+use Rattle.h5w_first_flush_laws.specs.StartFlushes.{HasStartingPart}
+use Rattle.h5w_first_flush_laws.proofs.ArrayFirstLemmas.{all_written}
+use Rattle.h5w_first_flush_laws.proofs.StartLemmas.{blank_standing, created_blank}
+use Rattle.h5w_first_flush_laws.proofs.StartPieceLemmas.{holder_changed, start_part}
 use Rattle.h5w_bt_index.specs.Marks.{Part, clean_of}
 use Rattle.h5w_bt_nodes.specs.Nodes.{Tree as Node, address_in}
 use Rattle.h5w_bt_nodes.specs.Blocks.{placed, written}

@@ -9,18 +9,15 @@ use Rattle.h5w_model.specs.declared.piece.Write.{Write}
 use Rattle.h5w_space.specs.Space.{Space}
 use Rattle.h5w_space.specs.declared.Extent.{Extent}
 use Rattle.h5w_cache.specs.Plans.{Chain, Took}
-use Rattle.h5w_index.specs.Views.{IndexView, HasSlot}
-use Rattle.h5w_index.specs.Steps.{IsHeld, IsSet}
+use Rattle.h5w_index.specs.Views.{IndexView}
+use Rattle.h5w_index.specs.Steps.{IsSet}
 
 -- ---- The chunks in the index
 
--- one chunk more, by its key and its address: a place is held for it in the index, which then names it
+-- the index names one chunk more, by its key and its address
 pub record IsNamedNext (v : IndexView) (a : Key × ℕ) (w : IndexView) : Type 0 where
-  pub held : IndexView
-  pub holds : IsHeld a.0 v held
-  pub slot : HasSlot held a.0
   pub defined : a.1 ≢ undefined
-  pub sets : IsSet a.0 a.1 held w
+  pub sets : IsSet a.0 a.1 v w
 
 -- chunks, one after another
 abbrev pub AreNamed : IndexView → List (Key × ℕ) → IndexView → Type 0

@@ -18,7 +18,7 @@ use Rattle.h5w_array_laws.specs.Parts.{index_block}
 use Rattle.h5w_array_laws.specs.ArrayStores.{place_at_part}
 use Rattle.h5w_flush_laws.specs.Knowledge.{Knows}
 use Rattle.h5w_flush_laws.specs.Spaces.{extent_of}
-use Rattle.h5w_starting_laws.proofs.FirstLemmas.{second_of}
+use Rattle.h5w_first_flush_laws.proofs.ArrayFirstLemmas.{second_of}
 use Rattle.h5w_index.specs.Blocks.{has_no_block}
 use Rattle.h5w_index.specs.Flushes.{Rests}
 use Rattle.h5w_index.specs.Views.{IndexView, an_array, a_tree, fixed_of, header_place}

@@ -19,7 +19,7 @@ use Rattle.h5w_step_laws.specs.Logs.{image_now}
 use Rattle.h5w_step_laws.proofs.MomentLemmas.{few}
 use Rattle.h5w_flush_laws.proofs.KeyLemmas.{found_table, needed_at}
 use Rattle.h5w_flush_laws.proofs.NewChunkLemmas.{touched_is}
-use Rattle.h5w_starting_laws.specs.Starting.{no_chunk}
+use Rattle.h5w_first_flush_laws.specs.FirstFlushes.{no_chunk}
 use Rattle.h5w_index.specs.Views.{IndexView, address_in}
 use Rattle.h5w_writer.specs.Sessions.{Session, rows_of}
 use Rattle.h5w_writer.specs.Flushes.{ArePlanned, IsFlushed}
@@ -63,7 +63,7 @@ module _ (s : Session) (v : IndexView) (first : Space) (w : IndexView) (t : Spac
       let placed = placed_then s v first w t x k (get_or x.chunks k no_place) found in
       placed.defined (sym placed.named ∙ e)
 
-  number_defined : ((n : ℕ) → n < needed d → address_in v (index_key d n) ≢ undefined) → (n : ℕ) → n < div_up (rows_of s) d.layout.chunk_rows * chunks_across d → address_in w (index_key d n) ≢ undefined
+  pub number_defined : ((n : ℕ) → n < needed d → address_in v (index_key d n) ≢ undefined) → (n : ℕ) → n < div_up (rows_of s) d.layout.chunk_rows * chunks_across d → address_in w (index_key d n) ≢ undefined
   number_defined each n low =
       elim (cases_lt n before) [
         | inl less ↦ λ e.

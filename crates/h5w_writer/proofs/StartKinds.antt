@@ -37,17 +37,18 @@ use Rattle.h5w_flush_laws.specs.Knowledge.{Knows}
 use Rattle.h5w_flush_laws.specs.Parts.{AreEnded, Parts, committed, pieces_of}
 use Rattle.h5w_flush_laws.specs.Rows.{ArePlaced, IsOutside, IsPlaced, new_chunks}
 use Rattle.h5w_flush_laws.proofs.SpaceLemmas.{taken_laws}
-use Rattle.h5w_starting_laws.specs.Starting as starts
-use Rattle.h5w_starting_laws.specs.Starting.{no_chunk, StartKnows}
-use Rattle.h5w_starting_laws.specs.StartCalls.{ArePending, AreStartCalls, IsMade, NamesChunks}
-use Rattle.h5w_starting_laws.specs.StartFlushes as starts_parts
+use Rattle.h5w_first_flush_laws.specs.Starting as starts
+use Rattle.h5w_first_flush_laws.specs.FirstFlushes.{no_chunk}
+use Rattle.h5w_first_flush_laws.specs.Starting.{StartKnows}
+use Rattle.h5w_first_flush_laws.specs.StartCalls.{ArePending, AreStartCalls, IsMade, NamesChunks}
+use Rattle.h5w_first_flush_laws.specs.StartFlushes as starts_parts
 use Rattle.h5w_block_laws.specs.HeaderAlone.{IsHeaderAlone}
 use Rattle.h5w_block_laws.specs.BlockFlushes.{block_parts_for}
 use Rattle.h5w_block_laws.specs.BlockCalls.{AreBlockCalls, AreOrdered}
 use Rattle.h5w_block_laws.proofs.BlockCallLemmas.{block_pending}
-use Rattle.h5w_starting_laws.proofs.StartLemmas.{blank_map, created_blank}
-use Rattle.h5w_starting_laws.proofs.StartPieceLemmas.{named_changed}
-use Rattle.h5w_starting_laws.proofs.StartCallLemmas.{start_pending, two_taken}
+use Rattle.h5w_first_flush_laws.proofs.StartLemmas.{blank_map, created_blank}
+use Rattle.h5w_first_flush_laws.proofs.StartPieceLemmas.{named_changed}
+use Rattle.h5w_first_flush_laws.proofs.StartCallLemmas.{start_pending, two_taken}
 use Rattle.h5w_bt_index.specs.Index.{Index, no_tree}
 use Rattle.h5w_index.specs.Views.{IndexView, an_array, a_tree, address_in, behind_of, fixed_of, header_place, kind_of}
 use Rattle.h5w_index.specs.Steps.{IsPlan}

@@ -17,14 +17,15 @@ use Rattle.h5w_step_laws.specs.Logs.{image_now}
 use Rattle.h5w_array_laws.specs.ArrayStores as arrays
 use Rattle.h5w_flush_laws.specs.Knowledge.{HeldMissed, Holding, Knows}
 use Rattle.h5w_flush_laws.specs.Parts.{IsFlush, Parts, flushed_to, pieces_of}
-use Rattle.h5w_starting_laws.specs.Starting.{no_chunk, StartKnows}
-use Rattle.h5w_starting_laws.specs.StartFlushes as starts_parts
-use Rattle.h5w_starting_laws.proofs.StartCallLemmas.{start_calls}
-use Rattle.h5w_starting_laws.proofs.StartFlushLemmas.{start_is_flush, start_missed}
+use Rattle.h5w_first_flush_laws.specs.FirstFlushes.{no_chunk}
+use Rattle.h5w_first_flush_laws.specs.Starting.{StartKnows}
+use Rattle.h5w_first_flush_laws.specs.StartFlushes as starts_parts
+use Rattle.h5w_first_flush_laws.proofs.StartCallLemmas.{start_calls}
+use Rattle.h5w_first_flush_laws.proofs.StartFlushLemmas.{start_first}
 use Rattle.h5w_block_laws.specs.BlockFlushes.{block_parts_for}
 use Rattle.h5w_block_laws.specs.HeaderAlone.{AloneKnows}
 use Rattle.h5w_block_laws.proofs.BlockCallLemmas.{block_calls}
-use Rattle.h5w_block_laws.proofs.BlockFlushLemmas.{block_is_flush, block_missed}
+use Rattle.h5w_block_laws.proofs.BlockFlushLemmas.{block_first}
 use Rattle.h5w_bt_index.specs.Index.{Index, no_tree}
 use Rattle.h5w_index.specs.Views.{IndexView, an_array, a_tree, address_in, behind_of}
 use Rattle.h5w_tree_starting_laws.specs.TreeStarting as tree_starts
@@ -70,8 +71,8 @@ module _ (name : List ℕ) (log : Log) (m : Moment) (rest base first b t : Space
       (named_calls name log m rest base first b t at naming u v w ms rows more writes places added cs fixed supers ws c none two) in
       record {
         parts = starts_parts.parts_for m w rows more writes places calls.copies supers t.end;
-        flush = start_is_flush now name m rest b t u v w ms rows more writes places calls.copies fixed supers (unnamed none k) calls.start;
-        missed = λ held h. start_missed now name m rest b t u v w ms rows more writes places calls.copies fixed supers (unnamed none (held_known now name m rest k held h)) calls.start;
+        flush = (start_first now name m rest b t u v w ms rows more writes places calls.copies fixed supers (unnamed none k) calls.start).flush;
+        missed = λ held h. (start_first now name m rest b t u v w ms rows more writes places calls.copies fixed supers (unnamed none (held_known now name m rest k held h)) calls.start).missed;
         pieces = calls.pieces ∙ sym (named_pieces name log m rest base first b t at naming u v w ms rows more writes places added cs fixed supers ws c none);
         leads = ap (λ (o : Option ℕ). first_named m o (an_array w) rows more t.end) (sym is);
         address = refl;
@@ -89,8 +90,8 @@ module _ (name : List ℕ) (log : Log) (m : Moment) (rest base first b t : Space
       (alone_calls name log m rest base first b t at naming u v w ms rows more writes places added cs fixed supers ws c there took) in
       record {
         parts = block_parts_for m w rows more writes places calls.copies supers t.end;
-        flush = block_is_flush now name m rest b t u v w ms rows more writes places calls.copies fixed supers (alone named k) calls.start;
-        missed = λ held h. block_missed now name m rest b t u v w ms rows more writes places calls.copies fixed supers (alone named (held_known now name m rest k held h)) calls.start;
+        flush = (block_first now name m rest b t u v w ms rows more writes places calls.copies fixed supers (alone named k) calls.start).flush;
+        missed = λ held h. (block_first now name m rest b t u v w ms rows more writes places calls.copies fixed supers (alone named (held_known now name m rest k held h)) calls.start).missed;
         pieces = calls.pieces ws (ordered_pieces name log m rest base first b t at naming u v w ms rows more writes places added cs fixed supers ws c named);
         leads = ap (λ (o : Option ℕ). first_named m o (an_array w) rows more t.end) (sym is);
         address = refl;
@@ -122,8 +123,8 @@ module _ (name : List ℕ) (log : Log) (m : Moment) (rest base first b t : Space
       tree_start_calls now m rest b t p v w ms rows more writes places added cs fixed supers (tree_calls name log m rest base first b t at p naming v w ms rows more writes places added cs fixed supers ws c) in
       record {
         parts = tree_starts.parts_for m p w rows more writes places calls.copies supers t.end;
-        flush = trees.tree_start_is_flush now name m rest b t p v w ms rows more writes places calls.copies fixed supers (tree_known k) calls.start;
-        missed = λ held h. trees.start_missed now name m rest b t p v w ms rows more writes places calls.copies fixed supers (tree_known (held_known now name m rest k held h)) calls.start;
+        flush = (trees.start_first now name m rest b t p v w ms rows more writes places calls.copies fixed supers (tree_known k) calls.start).flush;
+        missed = λ held h. (trees.start_first now name m rest b t p v w ms rows more writes places calls.copies fixed supers (tree_known (held_known now name m rest k held h)) calls.start).missed;
         pieces = calls.pieces ∙ sym (tree_pieces name log m rest base first b t at p naming v w ms rows more writes places added cs fixed supers ws c);
         leads = ap (λ (o : Option ℕ). first_named m o (a_tree p w) rows more t.end) (sym is);
         address = refl;

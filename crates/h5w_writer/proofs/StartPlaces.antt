@@ -22,9 +22,9 @@ use Rattle.h5w_flush_laws.specs.Chunks.{chunks_for}
 use Rattle.h5w_flush_laws.proofs.ChunkPlaceLemmas.{places_apart}
 use Rattle.h5w_flush_laws.proofs.NewChunkLemmas.{new_joined}
 use Rattle.h5w_flush_laws.proofs.SpaceLemmas.{taken_laws}
-use Rattle.h5w_starting_laws.specs.Starting.{no_chunk}
-use Rattle.h5w_starting_laws.proofs.StartCallLemmas.{two_taken}
-use Rattle.h5w_starting_laws.proofs.TakenLemmas.{taken_again, taken_right}
+use Rattle.h5w_first_flush_laws.specs.FirstFlushes.{no_chunk}
+use Rattle.h5w_first_flush_laws.proofs.StartCallLemmas.{two_taken}
+use Rattle.h5w_first_flush_laws.proofs.TakenLemmas.{taken_again, taken_right}
 use Rattle.h5w_index.specs.Naming.{AreTaken, AreTakenBehind}
 use Rattle.h5w_index.specs.Views.{IndexView, an_array, a_tree}
 use Rattle.h5w_writer.specs.Starts.{IsMadeAt, TookTops, both, block_alone}

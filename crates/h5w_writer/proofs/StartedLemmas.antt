@@ -32,7 +32,7 @@ use Rattle.h5w_flush_laws.specs.Knowledge.{KnownHeld}
 use Rattle.h5w_flush_laws.specs.Parts.{AreEnded}
 use Rattle.h5w_flush_laws.specs.Rows.{IsOutside, IsPlaced, new_chunks}
 use Rattle.h5w_flush_laws.specs.Spaces.{Taken}
-use Rattle.h5w_starting_laws.specs.Starting.{no_chunk}
+use Rattle.h5w_first_flush_laws.specs.FirstFlushes.{no_chunk}
 use Rattle.h5w_index.specs.Views.{address_in, header_place}
 use Rattle.h5w_index.specs.Flushes.{PlanTold}
 use Rattle.h5w_index.specs.Naming.{AreNamed, AreTaken, AreTakenBehind}

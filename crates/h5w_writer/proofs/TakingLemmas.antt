@@ -33,7 +33,7 @@ use Rattle.h5w_cache.specs.declared.plan.PlanError.TheVariants as plan
 use Rattle.h5w_flush_laws.specs.EarlyRows.{IsEarlyPlace}
 use Rattle.h5w_ea_index.specs.Steps.{found}
 use Rattle.h5w_index.specs.Steps.{IsDeep, IsHeld, IsSet}
-use Rattle.h5w_index.specs.Views.{HasSlot, IndexView, IsReached, IsSound, address_in}
+use Rattle.h5w_index.specs.Views.{IndexView, IsReached, IsSound, address_in}
 use Rattle.h5w_index.specs.Naming.{AreNamed, AreTakenBehind}
 use Rattle.h5w_index.specs.Placing.{AreInside, Fits, IsPartly, next_key}
 use Rattle.h5w_index.specs.Marks.{IsTouched}
@@ -220,12 +220,11 @@ taken_there d to v w early s t chunks now added key p fits within number there d
     (behind_laws.behind_stored d (address_in v) early s t chunks p known (omega (arith, own, before, y.raised.rises)) y)
 
 -- The index names it for the first time.
-pub named_first : (d : Described) (to : ℕ) (v w h u : IndexView) (chunks now : List ChunkPlace) (added all : List Key) (key : Key) (p : ChunkPlace) → Fits d v → key ≡ next_key d chunks → length chunks < touched d d.shape.rows to
-    → address_in w key ≡ undefined → p.stored ≡ false → p.address ≢ undefined → IsHeld key w h → HasSlot h key → IsSet key p.address h u → now ≡ chunks ++ p ∷ [] → all ≡ added ++ key ∷ [] → AreNamed d to v chunks added w
+pub named_first : (d : Described) (to : ℕ) (v w u : IndexView) (chunks now : List ChunkPlace) (added all : List Key) (key : Key) (p : ChunkPlace) → Fits d v → key ≡ next_key d chunks → length chunks < touched d d.shape.rows to
+    → address_in w key ≡ undefined → p.stored ≡ false → p.address ≢ undefined → IsSet key p.address w u → now ≡ chunks ++ p ∷ [] → all ≡ added ++ key ∷ [] → AreNamed d to v chunks added w
     → AreNamed d to v now all u
-named_first d to v w h u chunks now added all key p fits number inside none fresh defined held slot set is keys x =
-    let made = naming_laws.named_new d to v w h u chunks added p fits inside (subst (λ (k : Key). address_in w k ≡ undefined) number none) fresh defined (subst (λ (k : Key). IsHeld k w h) number held)
-    (subst (λ (k : Key). HasSlot h k) number slot) (subst (λ (k : Key). IsSet k p.address h u) number set) x in
+named_first d to v w u chunks now added all key p fits number inside none fresh defined set is keys x =
+    let made = naming_laws.named_new d to v w u chunks added p fits inside (subst (λ (k : Key). address_in w k ≡ undefined) number none) fresh defined (subst (λ (k : Key). IsSet k p.address w u) number set) x in
     let own : AreNamed d to v (chunks ++ p ∷ []) (added ++ key ∷ []) u = subst (λ (k : Key). AreNamed d to v (chunks ++ p ∷ []) (added ++ k ∷ []) u) (sym number) made in
     subst (λ (ps : List ChunkPlace). AreNamed d to v ps all u) (sym is) (subst (λ (ks : List Key). AreNamed d to v (chunks ++ p ∷ []) ks u) (sym keys) own)
 
@@ -235,11 +234,12 @@ taken_first d to v w early s t next chunks now added key p fits some number none
     subst (λ (ps : List ChunkPlace). AreTakenBehind d (address_in v) early s ps next) (sym is)
     (behind_laws.behind_new d (address_in v) early s t next chunks p some (absent_before d to v w chunks added key fits x number none) took y)
 
--- A place is held for it, and then the call is refused.
-pub partly_refused : (d : Described) (to : ℕ) (key : Key) (v w h u : IndexView) (added now : List Key) → IsHeld key w h → u ≡ h → now ≡ added → IsPartly d to v added w → IsTouched d d.shape.rows to key → IsPartly d to v now u
-partly_refused d to key v w h u added now held index keys x touches =
-    let here = placing_laws.held d to key v w h added touches held x in
-    subst (λ (ks : List Key). IsPartly d to v ks u) (sym keys) (subst (λ (i : IndexView). IsPartly d to v added i) (sym index) here)
+-- The call is refused: before the index was asked, or by the index.
+pub partly_kept : (d : Described) (to : ℕ) (v w : IndexView) (added now : List Key) → now ≡ added → IsPartly d to v added w → IsPartly d to v now w
+partly_kept d to v w added now keys x = subst (λ (ks : List Key). IsPartly d to v ks w) (sym keys) x
+
+pub partly_refused : (d : Described) (to : ℕ) (key : Key) (v w u : IndexView) (added now : List Key) → IsHeld key w u → now ≡ added → IsPartly d to v added w → IsTouched d d.shape.rows to key → IsPartly d to v now u
+partly_refused d to key v w u added now held keys x touches = partly_kept d to v u added now keys (placing_laws.held d to key v w u added touches held x)
 
 -- A chunk that was written early is where the index names it, or the index does not know it.
 pub early_there : (d : Described) (to : ℕ) (v w : IndexView) (chunks : List ChunkPlace) (added : List Key) (key : Key) (p : ChunkPlace) → Fits d v → AreNamed d to v chunks added w → key ≡ next_key d chunks → address_in w key ≢ undefined
@@ -295,14 +295,13 @@ shallow_causes e r is (inl space) shallow = rw is (inl space)
 shallow_causes e r is (inr (inl deep)) shallow = absurd (shallow deep)
 shallow_causes e r is (inr (inr memory)) shallow = rw is (inr memory)
 
--- a place in the index is refused for want of room there, or of memory
-pub insert_causes : {T : Type 0} (e : InsertError) (r : Result T FlushError) → r ≡ Err (insert_fault e) → IfErr r (λ f. IsSpace f ⊎ ((f ≡ flushes.Deep) ⊎ (f ≡ flushes.OutOfMemory)))
-insert_causes inserts.Deep r is = rw is (inr (inl refl))
-insert_causes inserts.OutOfMemory r is = rw is (inr (inr refl))
-
-pub insert_not_full : {T : Type 0} (e : InsertError) (full : Full) → ◌≡◌ {A = Result T FlushError} (Err (insert_fault e)) (Err (flushes.Space full)) → ⊥
-insert_not_full inserts.Deep full is = cc
-insert_not_full inserts.OutOfMemory full is = cc
+-- what the index refuses is not refused for want of room in the file
+pub named_not_full : {T : Type 0} (r : Result T FlushError) (full : Full) → IfErr r (λ e. (e ≡ flushes.Deep) ⊎ (e ≡ flushes.OutOfMemory)) → r ≡ Err (flushes.Space full) → ⊥
+named_not_full r full causes is = go (subst (λ q. IfErr q (λ e. (e ≡ flushes.Deep) ⊎ (e ≡ flushes.OutOfMemory))) is causes)
+  where
+    go : (flushes.Space full ≡ flushes.Deep) ⊎ (flushes.Space full ≡ flushes.OutOfMemory) → ⊥
+    go (inl e) = cc
+    go (inr e) = cc
 
 pub insert_deep : {T P : Type 0} (e : InsertError) → ◌≡◌ {A = Result T FlushError} (Err (insert_fault e)) (Err flushes.Deep) → (e ≡ inserts.Deep → P) → P
 insert_deep inserts.Deep is told = told refl

@@ -19,7 +19,7 @@ use Rattle.h5w_step_laws.specs.Moments.{Moment}
 use Rattle.h5w_step_laws.specs.Logs.{image_now}
 use Rattle.h5w_step_laws.specs.Sessions.{Runs}
 use Rattle.h5w_flush_laws.specs.Knowledge.{Knows}
-use Rattle.h5w_starting_laws.specs.StartCalls.{IsMade}
+use Rattle.h5w_first_flush_laws.specs.StartCalls.{IsMade}
 use Rattle.h5w_bt_index.specs.Index.{Index, no_tree}
 use Rattle.h5w_index.specs.Views.{IndexView, IsSound, an_array, a_tree, fixed_of, header_place, kind_of}
 use Rattle.h5w_index.specs.Marks.{IsRaised}

@@ -1,5 +1,5 @@
 //! The chunks that rows go into, and their places.
-ghost use Rattle.std.specs.Prelude.{◌≡◌, ◌≢◌, ◌⊎◌, ℕ, ◌+◌, ◌-◌, ◌*◌, ◌^◌, ◌<◌, ◌≤◌, false, List, [], ◌∷◌, ◌++◌, length, IfErr, IfNone, IfSome, OnErr, OnOk, Err, Some};
+ghost use Rattle.std.specs.Prelude.{◌≡◌, ◌≢◌, ◌⊎◌, ℕ, ◌+◌, ◌-◌, ◌*◌, ◌^◌, ◌<◌, ◌≤◌, false, List, [], ◌∷◌, ◌++◌, length, vec_len, vec_capacity, IfErr, IfNone, IfSome, OnErr, OnOk, Err, Some};
 ghost use Rattle.std.specs.List.{All, slice_get};
 ghost use Rattle.h5w_model.specs.Datasets.{Described};
 ghost use Rattle.h5w_model.specs.Logs.{div_up};
@@ -19,7 +19,7 @@ ghost use Rattle.h5w_index.specs.Marks.{IsTouched};
 ghost use Rattle.h5w_index.specs.Full.{IsChunkFull};
 ghost use Rattle.h5w_index.specs.Naming.{AreNamed, AreTakenBehind};
 ghost use Rattle.h5w_index.specs.Placing.{AreInside, Fits, IsPartly, IsPlacing, next_key};
-ghost use Rattle.h5w_index.specs.Steps.{IsDeep, IsSet};
+ghost use Rattle.h5w_index.specs.Steps.{IsDeep};
 ghost use Rattle.h5w_index.specs.Views.{HasSlot, IndexView, IsReached, IsSound, TakesKey, address_in};
 ghost use Rattle.h5w_writer.specs.Flushes.{first_key, first_place};
 ghost use Rattle.h5w_writer.specs.Refusals.{IsDeepPart, IsSpace};
@@ -68,28 +68,45 @@ fn keep<T: Copy + Drop>(items: &mut Vec<T>, item: T) -> Result<(), OutOfMemory>
     Ok(())
 }
 
-/// A chunk, for which the index holds a place, is at this one from now on: the index names it there. Where memory ran out the index names no
-/// more chunks than before.
-fn name_held(
+/// Makes room for a chunk more that is named.
+fn make_room(taking: &mut Taking) -> Result<(), OutOfMemory>
+    ensures chunks { taking.new.chunks.items ≡ taking.old.chunks.items }
+    ensures added { taking.new.added.items ≡ taking.old.added.items }
+    ensures places { taking.new.places ≡ taking.old.places }
+    ensures room { OnOk result (vec_len taking.new.chunks < vec_capacity taking.new.chunks) }
+    ensures room_added { OnOk result (vec_len taking.new.added < vec_capacity taking.new.added) }
+{
+    taking.chunks.reserve(1)?;
+    taking.added.reserve(1)?;
+    Ok(())
+}
+
+/// The index names a chunk that it does not know at the place that it has, from now on. After a refusal it names no more chunks than before.
+fn name_new(
     key: Key,
     place: ChunkPlace,
     taking: &mut Taking,
     index: &mut Index,
-) -> Result<(), OutOfMemory>
+) -> Result<(), FlushError>
     requires sound { IsSound (view_of index.old) }
-    requires slot { HasSlot (view_of index.old) key }
+    requires takes { TakesKey (view_of index.old) key }
+    requires absent { address_in (view_of index.old) key ≡ undefined }
     requires defined { place.address ≢ undefined }
     ensures sound { IsSound (view_of index.new) }
-    ensures set { OnOk result (IsSet key place.address (view_of index.old) (view_of index.new)) }
+    ensures takes { (other : Key) → TakesKey (view_of index.old) other → TakesKey (view_of index.new) other }
+    ensures named { OnOk result ((d : Described) (to : ℕ) (v : IndexView) → Fits d v → key ≡ next_key d taking.old.chunks.items → length taking.old.chunks.items < touched d d.shape.rows to → place.stored ≡ false
+        → AreNamed d to v taking.old.chunks.items taking.old.added.items (view_of index.old) → AreNamed d to v taking.new.chunks.items taking.new.added.items (view_of index.new)) }
     ensures chunks { OnOk result (taking.new.chunks.items ≡ taking.old.chunks.items ++ place ∷ []) }
-    ensures added { OnOk result (taking.new.added.items ≡ taking.old.added.items ++ key ∷ []) }
     ensures places { taking.new.places ≡ taking.old.places }
-    ensures index_kept { OnErr result (view_of index.new ≡ view_of index.old) }
-    ensures added_kept { OnErr result (taking.new.added.items ≡ taking.old.added.items) }
+    ensures partly { OnErr result ((d : Described) (to : ℕ) (v : IndexView) → IsPartly d to v taking.old.added.items (view_of index.old) → IsTouched d d.shape.rows to key → IsPartly d to v taking.new.added.items (view_of index.new)) }
+    ensures within { (lines across : ℕ) → key.i < lines → key.j < across → AreWithin lines across (view_of index.old) → AreWithin lines across (view_of index.new) }
+    ensures deep { result ≡ Err FlushError.Deep → IsDeep (view_of index.old) key }
+    ensures causes { IfErr result (λ e. (e ≡ FlushError.Deep) ⊎ (e ≡ FlushError.OutOfMemory)) }
 {
-    keep(&mut taking.chunks, place)?;
-    keep(&mut taking.added, key)?;
-    index.set(key, place.address);
+    make_room(taking)?;
+    index.insert(key, place.address)?;
+    taking.chunks.push_reserved(place);
+    taking.added.push_reserved(key);
     Ok(())
 }
 
@@ -127,13 +144,15 @@ fn place_new(
     ensures deep { result ≡ Err FlushError.Deep → IsDeep (view_of index.old) key }
     ensures causes { IfErr result (λ e. IsSpace e ⊎ ((e ≡ FlushError.Deep) ⊎ (e ≡ FlushError.OutOfMemory))) }
 {
-    index.hold(key)?;
+    if index.is_deep(key) {
+        return Err(FlushError::Deep);
+    }
     let address = taking.places.take(grid.chunk_len())?;
     let place = ChunkPlace {
         address,
         stored: false,
     };
-    name_held(key, place, taking, index)?;
+    name_new(key, place, taking, index)?;
     Ok(())
 }
 
@@ -232,32 +251,6 @@ pub fn place_chunks(
         let band = grid.touched_band(from, to, k);
         place_chunk(grid, key, band, taking, index)?;
     }
-    Ok(())
-}
-
-/// The index names a chunk that it does not know at the place that it has, from now on. After a refusal it names no more chunks than before.
-fn name_new(
-    key: Key,
-    place: ChunkPlace,
-    taking: &mut Taking,
-    index: &mut Index,
-) -> Result<(), FlushError>
-    requires sound { IsSound (view_of index.old) }
-    requires takes { TakesKey (view_of index.old) key }
-    requires absent { address_in (view_of index.old) key ≡ undefined }
-    requires defined { place.address ≢ undefined }
-    ensures sound { IsSound (view_of index.new) }
-    ensures named { OnOk result ((d : Described) (to : ℕ) (v : IndexView) → Fits d v → key ≡ next_key d taking.old.chunks.items → length taking.old.chunks.items < touched d d.shape.rows to → place.stored ≡ false
-        → AreNamed d to v taking.old.chunks.items taking.old.added.items (view_of index.old) → AreNamed d to v taking.new.chunks.items taking.new.added.items (view_of index.new)) }
-    ensures chunks { OnOk result (taking.new.chunks.items ≡ taking.old.chunks.items ++ place ∷ []) }
-    ensures places { taking.new.places ≡ taking.old.places }
-    ensures partly { OnErr result ((d : Described) (to : ℕ) (v : IndexView) → IsPartly d to v taking.old.added.items (view_of index.old) → IsTouched d d.shape.rows to key → IsPartly d to v taking.new.added.items (view_of index.new)) }
-    ensures within { (lines across : ℕ) → key.i < lines → key.j < across → AreWithin lines across (view_of index.old) → AreWithin lines across (view_of index.new) }
-    ensures deep { result ≡ Err FlushError.Deep → IsDeep (view_of index.old) key }
-    ensures causes { IfErr result (λ e. (e ≡ FlushError.Deep) ⊎ (e ≡ FlushError.OutOfMemory)) }
-{
-    index.hold(key)?;
-    name_held(key, place, taking, index)?;
     Ok(())
 }
 

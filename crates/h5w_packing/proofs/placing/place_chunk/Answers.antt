@@ -5,8 +5,7 @@ use Rattle.h5w_space.specs.Space.{Space, TakesPlace, extent}
 use Rattle.h5w_chunks.specs.Grids.{dataset_of}
 use Rattle.h5w_flush_laws.proofs.NewChunkLemmas.{same_len}
 use Rattle.h5w_index.specs.Held.{view_of}
-use Rattle.h5w_index.specs.Views.{HasSlot}
-use Rattle.h5w_index.specs.Steps.{IsDeep, IsHeld, IsSet}
+use Rattle.h5w_index.specs.Steps.{IsDeep, IsSet}
 use Rattle.h5w_packing.proofs.PlaceLemmas.{kind_stays, not_deep, tight_place}
 use Rattle.h5w_packing.proofs.placing.place_chunk.Goals as goal
 
@@ -15,23 +14,21 @@ unreachable-requires c =
     let deep : IsDeep (view_of c.args.index.now) c.key_of-key.result = search rules in
     not_deep (dataset_of c.args.grid.now) c.args.number (view_of c.args.index.now) c.requires.sound c.requires.kind c.requires.few (subst (λ (k : Key). IsDeep (view_of c.args.index.now) k) c.key_of-key.ensures deep)
 
-pub returns-clause-kind : goal.returns-clause-kind
-returns-clause-kind c =
+pub returns-in-Ok-clause-kind : goal.returns-in-Ok-clause-kind
+returns-in-Ok-clause-kind c =
     let d = dataset_of c.args.grid.now in
-    let u = view_of c.args.index.now in
-    let v = view_of c.hold.new.self in
-    let w = view_of c.set.new.self in
+    let v = view_of c.args.index.now in
+    let w = view_of c.insert.new.self in
     let defined : c.in_ok-address.address ≢ undefined = search rules in
-    kind_stays d c.args.number c.in_ok-address.address u v w c.requires.inside c.requires.sound c.in-Ok.ensures.sound c.requires.kind (subst (λ (k : Key). IsHeld k u v) c.key_of-key.ensures c.in-Ok.ensures.held)
-    (subst (λ (k : Key). HasSlot v k) c.key_of-key.ensures c.in-Ok.ensures.slot) defined (subst (λ (k : Key). IsSet k c.in_ok-address.address v w) c.key_of-key.ensures c.set.ensures.set)
+    kind_stays d c.args.number c.in_ok-address.address v w c.requires.inside c.requires.sound c.requires.kind defined (subst (λ (k : Key). IsSet k c.in_ok-address.address v w) c.key_of-key.ensures c.in-Ok.ensures.set)
 
-pub returns-clause-place : goal.returns-clause-place
-returns-clause-place c =
+pub returns-in-Ok-clause-place : goal.returns-in-Ok-clause-place
+returns-in-Ok-clause-place c =
     let taken : TakesPlace c.args.places.now c.take.new.self (extent c.in_ok-address.address c.chunk_len.result) = search rules in
     (tight_place c.args.places.now c.take.new.self (extent c.in_ok-address.address c.chunk_len.result) c.requires.tight taken).0
 
-pub returns-clause-places : goal.returns-clause-places
-returns-clause-places c =
+pub returns-in-Ok-clause-places : goal.returns-in-Ok-clause-places
+returns-in-Ok-clause-places c =
     let taken : TakesPlace c.args.places.now c.take.new.self (extent c.in_ok-address.address c.chunk_len.result) = search rules in
     (tight_place c.args.places.now c.take.new.self (extent c.in_ok-address.address c.chunk_len.result) c.requires.tight taken).1
     ∙ ap (λ n. let s : Space = record c.args.places.now { end = c.args.places.now.end + n } in s) (c.chunk_len.ensures.exact ∙ same_len (dataset_of c.args.grid.now))
