@@ -27,15 +27,16 @@ use Rattle.h5w_writer.specs.Openings.{opened_log}
 use Rattle.h5w_writer.specs.Sessions.{AllEndBy, Session, Settles}
 use Rattle.h5w_writer.proofs.CreatingLemmas.{writes_end}
 use Rattle.h5w_writer.proofs.PastLemmas.{ends_later}
-use Rattle.h5w_several_writer_laws.specs.Began.{BeginsOver, began_end}
-use Rattle.h5w_several_writer_laws.specs.Seen.{IsSeen}
+use Rattle.h5w_several_writer_laws.specs.Began.{BeginsOver, IsAmple, began_end}
+use Rattle.h5w_several_writer_laws.specs.Seen.{IsOwn}
 use Rattle.h5w_several_writer_laws.specs.Sessions.{AfterPieceOf, AreFlushing, Sessions, all_pending}
 use Rattle.h5w_several_writer_laws.specs.Courses.{AreThrough, Stand, stands_of, then_shows}
 use Rattle.h5w_several_writer_laws.specs.Standing.{AreStandingParts, IsStandingPart, StandsAll, StandsOn, and_then, most_in}
 use Rattle.h5w_several_writer_laws.specs.Valid.{AreValidFrom}
 use Rattle.h5w_several_writer_laws.proofs.CallLemmas.{calls_stand}
 use Rattle.h5w_several_writer_laws.proofs.FlushAllLemmas.{stands_all}
-use Rattle.h5w_several_writer_laws.proofs.SightLemmas.{seen_begun}
+use Rattle.h5w_several_writer_laws.proofs.SightLemmas.{seen_begun, seen_owns}
+use Rattle.h5w_several_writer_laws.proofs.PastLemmas.{past_created}
 use Rattle.h5w_several_open.specs.Datasets.{IsEntry}
 use Rattle.h5w_several_open.proofs.DatasetLemmas.{all_apart}
 use Rattle.h5w_several_creating.specs.Created.{AreIndexes, begun_of, created_all, created_file, created_part, created_parts, leading, showing_all}
@@ -111,6 +112,9 @@ module _ (fs : List CreatedFile) (limit budget : ℕ) (h : AreCreatable fs) (low
   began : began_end log ≡ 1024 * length fs
   began = ap (λ (n : ℕ). 1024 * n) (many_begun fs)
 
+  ample : IsAmple t log
+  ample = omega (arith, began, low)
+
   begins_over : (columns : ℕ) → super_at (range img 0 48) ≡ Ok root → BeginsOver log (opened_log img columns [])
   begins_over columns read =
       let end = (several_sizes fs h).end in
@@ -144,13 +148,14 @@ module _ (fs : List CreatedFile) (limit budget : ℕ) (h : AreCreatable fs) (low
       let rest = all_made next gs vs is.1 within (Holds-rest img (set_at place f) (sets_from next gs) holds) each.1 index.1 in
       let b = begun_of f in
       let own_log = opened_log img f.columns [] in
-      let seen : (d : ℕ) (left : List Write) → left ≡ created_writes fs → IsSeen log d b own_log left = λ d left left_is. subst (IsSeen log d b own_log) (sym left_is) (seen_begun log d b (created_writes fs) refl refl (begins_over f.columns read)) in
+      let seen : (d : ℕ) (left : List Write) → left ≡ created_writes fs → IsOwn t.limit log d b own_log left = λ d left left_is. subst (IsOwn t.limit log d b own_log) (sym left_is) (seen_owns t log d b own_log (created_writes fs) ample (seen_begun log d b (created_writes fs) refl refl (begins_over f.columns read))) in
       let part : (us : List Used) (left : List Write) → left ≡ created_writes fs → (d : ℕ) (before ws behind : List Write) → IsStandingPart root t us left log d b before (record s { pending = ws }) behind e = λ us left left_is d before ws behind. record {
         name = refl;
         early = refl;
         going = refl;
         each = λ begun. absurd (omega (arith, begun, some_writes fs));
-        run = inr (record { calm = refl; some = λ none. absurd (let count = ap length (sym left_is ∙ none) in omega (arith, count, some_writes fs)); first = let count = ap length left_is in omega (arith, count) });
+        run = inr (record { calm = refl; some = λ none. absurd (let count = ap length (sym left_is ∙ none) in omega (arith, count, some_writes fs)); new = refl; first = let count = ap length left_is in omega (arith, count) });
+        past = past_created log b (record s { root = root; places = t; pending = [] }) own_log e t refl (omega (arith, some_writes fs)) refl runs;
         phase = inl (record { calm = inr refl; own = own_log; seen = seen d left left_is; runs = runs });
       } in
       record {
@@ -200,7 +205,7 @@ module _ (fs : List CreatedFile) (limit budget : ℕ) (h : AreCreatable fs) (low
           blocks = apart.blocks;
           parts = made.lead apart.root left left_is (created_writes fs);
           fits = omega (arith, end, low);
-          low = λ none. omega (arith, began, low);
+          low = ample;
           ends = subst (λ (ws : List Write). AllEndBy (most_in t log) ws) (sym left_is) (ends_later (end_of fs) (most_in t log) (created_writes fs) (omega (arith, end, low)) (writes_end (end_of fs) (created_writes fs) sizes.within));
           going = refl;
           valid = valid;

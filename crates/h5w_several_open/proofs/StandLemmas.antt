@@ -1,7 +1,7 @@
 -- A session of several datasets that was opened over a file that is valid for all of them stands for its log.
 use Rattle.std.proofs.Common.{◌≡◌, ◌≢◌, ℕ, suc, ◌≤◌, List, [], ◌∷◌, ◌++◌, length, Ok, refl, sym, ap, ◌∙◌, subst, inl, inr, arith, append-nil}
 use Rattle.h5w_model.specs.Images.{image}
-use Rattle.h5w_model.specs.Findings.{Used}
+use Rattle.h5w_model.specs.Findings.{AllSummary, AllValid, Used}
 use Rattle.h5w_model.specs.Logs.{Log}
 use Rattle.h5w_model.specs.Numbers.{range}
 use Rattle.h5w_model.specs.Prefixed.{PrefixedEach}
@@ -26,7 +26,7 @@ use Rattle.h5w_writer.specs.Sessions.{Session, AllEndBy as WritesEndBy}
 use Rattle.h5w_writer.specs.Told.{told_log}
 use Rattle.h5w_writer_open.specs.OpenAnswers.{IsOpenedOver}
 use Rattle.h5w_several_writer_laws.specs.Began.{IsAmple, began_end, end_among}
-use Rattle.h5w_several_writer_laws.specs.Seen.{IsSeen}
+use Rattle.h5w_several_writer_laws.specs.Seen.{IsOwn}
 use Rattle.h5w_several_writer_laws.specs.Sessions.{all_pending}
 use Rattle.h5w_several_writer_laws.proofs.RunLemmas.{planned_run}
 use Rattle.h5w_several_writer_laws.specs.Courses.{AreThrough, IsAt, stands_of}
@@ -34,6 +34,9 @@ use Rattle.h5w_several_writer_laws.specs.Standing.{AreStandingParts, IsDone, IsS
 use Rattle.h5w_several_writer_laws.proofs.FlushAllLemmas.{stands_all}
 use Rattle.h5w_several_writer_laws.specs.Valid.{AreValidFrom}
 use Rattle.h5w_several_writer_laws.proofs.SightLemmas.{seen_opened}
+use Rattle.h5w_several_writer_laws.proofs.PastLemmas.{past_opened}
+use Rattle.h5w_laws.proofs.SeveralLemmas.{all_ranges}
+use Rattle.h5w_step_laws.proofs.MomentLemmas.{super_parts}
 use Rattle.h5w_several_writer_laws.proofs.ValidLemmas.{begun_valid}
 use Rattle.h5w_several_open.specs.Answers.{HasBegunWith}
 use Rattle.h5w_several_open.specs.Begins.{BeginsPart, EachBegins, a_part, no_part}
@@ -68,7 +71,7 @@ module _ (img : List ℕ) (limit budget : ℕ) (root : Super) (ranges : List Use
   part d b name s e before behind pending p w =
       let own : Log = told_log p.times (super_piece root ∷ []) (opened_log img b.columns b.values) in
       let named : name ≡ s.name = sym w.begun.named in
-      let seen : IsSeen log d b own left = subst (IsSeen log d b own) (sym left_is) (seen_opened img all d b p.times (super_piece root ∷ []) (opened_end img all b at.was at.is)) in
+      let seen : IsOwn t.limit log d b own left = subst (IsOwn t.limit log d b own) (sym left_is) (seen_opened t.limit img all d b p.times (super_piece root ∷ []) (opened_end img all b at.was at.is)) in
       let by_root : RunsAs (record s { root = root; pending = [] }) [] own (then_as root e).moment e.address e.held s.places =
       subst (λ (x : Super). RunsAs (record s { root = x; pending = [] }) [] (told_log p.times (super_piece x ∷ []) (opened_log img b.columns b.values)) (then_as x e).moment e.address e.held s.places) w.root_is p.runs in
       let runs : RunsAs (record s { root = root; places = t; pending = [] }) [] own (then_as root e).moment e.address e.held t =
@@ -84,6 +87,7 @@ module _ (img : List ℕ) (limit budget : ℕ) (root : Super) (ranges : List Use
         going = w.begun.running;
         each = subst (λ (n : List ℕ). PrefixedEach n (log_of d b log)) named p.prefixed;
         run = inl (record { due = 0; runs = subst (λ (n : List ℕ). RunsTo n (log_of d b log) 0 left (then_as root e).moment e.held) named led });
+        past = past_opened img all b at.was at.is (record s { root = root; places = t; pending = [] }) p.times (super_piece root ∷ []) (then_as root e) t runs (p.entry.name_is ∙ named);
         phase = inl done;
       }
 
@@ -120,13 +124,13 @@ end_of img size limit budget root names ss some x h sets =
     let at = began_at img size limit budget root names ss some x h in
     ap (end_among (length sets)) at.is ∙ at.end
 
--- no bytes are no superblock
-none_read : (s : Super) → super_at (range [] 0 48) ≡ Ok s → ⊥
-none_read s e = cc
-
--- what a session opens has one
-pub opened_ample : (img : List ℕ) (sets : List Begun) (t : Space) (was : Super) → super_at (range img 0 48) ≡ Ok was → IsAmple t (opened_file img sets)
-opened_ample img sets t was is none = absurd (none_read was (subst (λ (i : List ℕ). super_at (range i 0 48) ≡ Ok was) none is))
+-- a valid file ends within its bytes
+pub opened_ample : (img : List ℕ) (names : List (List ℕ)) (summary : AllSummary) → AllValid img names summary → (sets : List Begun) (t : Space) → IsAmple t (opened_file img sets)
+opened_ample img names summary valid sets t =
+    let h = (all_ranges img names summary valid).all in
+    let front = super_parts (length img) (range img 0 48) h.superblock h.found in
+    let end = ap (end_among (length sets)) front.read in
+    omega (arith, end, front.inside)
 
 -- the names of the entries, of which there are as many as parts
 begun_names : (img : List ℕ) (root : Super) (names : List (List ℕ)) (bs : List Begun) (ss : List Session) (es : List Entry) → EachBegins img names bs ss es → names_of (all_then root es) ≡ names
@@ -177,7 +181,7 @@ opens_standing img size names summary bs ss limit budget root valid reads opened
       blocks = a.blocks;
       parts = first img limit budget root a.ranges bs left left_is at names bs ss a.entries a.each begun;
       fits = omega (arith, ends_at);
-      low = opened_ample img bs t at.was at.is;
+      low = opened_ample img names summary valid bs t;
       ends = subst (λ (ws : List Write). WritesEndBy (most_in t (opened_file img bs)) ws) (sym left_is) (omega (arith, long, low), tt);
       going = refl;
       valid = subst (λ (ws : List Write). AreValidFrom 0 img (names_of es) ws) (sym left_is) stays;

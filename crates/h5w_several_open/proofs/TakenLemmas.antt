@@ -49,6 +49,7 @@ use Rattle.h5w_several_writer_laws.specs.Courses.{AreThrough, stands_of}
 use Rattle.h5w_several_writer_laws.specs.Standing.{AreStandingParts, IsDone, StandsAll, last_image, most_in}
 use Rattle.h5w_several_writer_laws.specs.Valid.{AreValidFrom}
 use Rattle.h5w_several_writer_laws.proofs.FlushAllLemmas.{stands_all}
+use Rattle.h5w_several_writer_laws.proofs.PastLemmas.{past_opened}
 use Rattle.h5w_several_writer_laws.proofs.SightLemmas.{seen_opened}
 use Rattle.h5w_several_open.specs.Begins.{ReadsIt}
 use Rattle.h5w_several_open.specs.Datasets.{IsEntry}
@@ -206,8 +207,8 @@ module _ (img : List ℕ) (root : Super) (t : Space) (us : List Used) (all : Lis
       let own : Log = opened_log img b.columns b.values in
       let u : Session = told_of (record s { pending = [] }) root t in
       let named : name ≡ u.name = sym p.named in
-      let done : IsDone root t [] log d b u e = record { calm = inl refl; own = own; seen = seen_opened img all d b 0 [] (opened_end img all b root read); runs = p.runs } in (
-        record { name = p.entry.name_is ∙ named; early = p.early; going = p.going; each = subst (λ (n : List ℕ). PrefixedEach n (log_of d b log)) named p.prefixed; run = inl (rest_run u.name (log_of d b log) e (runs_of u [] own e.moment e.address e.held t p.runs)); phase = inl done },
+      let done : IsDone root t [] log d b u e = record { calm = inl refl; own = own; seen = seen_opened t.limit img all d b 0 [] (opened_end img all b root read); runs = p.runs } in (
+        record { name = p.entry.name_is ∙ named; early = p.early; going = p.going; each = subst (λ (n : List ℕ). PrefixedEach n (log_of d b log)) named p.prefixed; run = inl (rest_run u.name (log_of d b log) e (runs_of u [] own e.moment e.address e.held t p.runs)); past = past_opened img all b root read u 0 [] e t p.runs (p.entry.name_is ∙ named); phase = inl done },
         rest_parts (suc d) names bs ss es (before ++ []) rest,
       )
 
@@ -236,7 +237,7 @@ takes_standing img size names summary bs limit budget S valid reads taken begun 
       blocks = apart.blocks;
       parts = subst (λ (ws : List Write). AreStandingParts root t us ws log 0 bs [] (rested root t ss) es) none (rest_parts img root t us bs taken.super 0 names bs ss es [] r.each);
       fits = omega (arith, ends_at);
-      low = opened_ample img bs t root taken.super;
+      low = opened_ample img names summary valid bs t;
       ends = subst (λ (ws : List Write). WritesEndBy (most_in t log) ws) none tt;
       going = refl;
       valid = subst (λ (ws : List Write). AreValidFrom 0 img (names_of es) ws) none whole;

@@ -22,8 +22,8 @@ use crate::taking::takeover;
 use h5w_image::PieceRead;
 use h5w_names::Names;
 use h5w_opening::OpenError;
-use h5w_writer::WriterCore;
 use h5w_several_writer::SeveralWriter;
+use h5w_writer::WriterCore;
 use std::alloc::Global;
 
 /// How a session begins over a file that is there.

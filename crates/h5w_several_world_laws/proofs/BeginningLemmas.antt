@@ -114,20 +114,18 @@ pub record IsShort (img name : List ℕ) : Type 0 where
   pub root : looks_in (visits img (root_header (root_address img))) ≤ 2
   pub alone : continuation_blocks img (reading_of moment) ≡ []
 
-rest_is : (u v : Used) (us vs : List Used) → u ∷ us ≡ v ∷ vs → vs ≡ us
-rest_is u v us vs e = cc
-
 pub new_short : (img : List ℕ) (s : Super) (place : ℕ) (fs : List CreatedFile) (d : ℕ) (f : CreatedFile) → AreCreatable fs → s.root ≡ root_place → EachStands img s (root_ranges fs) place fs → slice_get fs d ≡ Some f
     → IsShort img f.name
 new_short img s place fs d f are at each is =
     let there = stands_there img s (root_ranges fs) place fs d f each is in
     let m : Moment = moment_at s (root_ranges fs) there.place f in
     let h = header_of img f.name m there.here in
+    let none : h.continued ≡ [] = let all = h.ranges in cc in
     record {
       moment = m;
       here = there.here;
       root = root_few img f.name m (root_len fs) there.here (ap (λ (p : ℕ). block_at p (root_len fs) ∷ []) (sym at)) (root_short fs are);
-      alone = h.named ∙ ap visits_of (rest_is _ _ [] h.continued h.ranges);
+      alone = h.named ∙ ap visits_of none;
     }
 
 -- ---- What happens then

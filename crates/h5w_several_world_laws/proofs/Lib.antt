@@ -7,3 +7,4 @@ pub mod FlushLemmas
 pub mod ReaderLemmas
 pub mod RefusalLemmas
 pub mod FullLemmas
+pub mod TakenLemmas

@@ -7,3 +7,4 @@ pub mod Holding
 pub mod Steps
 pub mod ReaderSteps
 pub mod Refusals
+pub mod Takeovers

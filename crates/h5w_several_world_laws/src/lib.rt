@@ -6,5 +6,5 @@ mod steps;
 
 pub use steps::{
     append_steps, flush_steps, full_flush, logs_hold, reader_steps, refused_flush, refused_steps,
-    writer_steps,
+    take_steps, writer_steps,
 };

@@ -4,6 +4,7 @@ ghost use Rattle.h5w_several_world_laws.specs.Holding.{LogsHold};
 ghost use Rattle.h5w_several_world_laws.specs.ReaderSteps.{AllReaderSteps};
 ghost use Rattle.h5w_several_world_laws.specs.Refusals.{AllRefusedSteps, FullStep, HeldStep};
 ghost use Rattle.h5w_several_world_laws.specs.Steps.{AppendStep, FlushStep, StepLaws};
+ghost use Rattle.h5w_several_world_laws.specs.Takeovers.{TakeSteps};
 
 /// A piece that becomes visible, a stop, and a line that takes another dataset into use: the reply is lawful, and the
 /// state after it fits the session that is left.
@@ -51,4 +52,10 @@ pub fn refused_flush()
 /// A flush of which the file has no place for some part: that place is bounded by the loads, so the reply is lawful.
 pub fn full_flush()
     ensures { FullStep }
+{}
+
+/// A takeover: where the writer was not stopped nothing changes; else another session goes on with the log, and readers poll on.
+#[tactic(auto, using(crate::proofs::TakenLemmas::take_steps))]
+pub fn take_steps()
+    ensures { TakeSteps }
 {}

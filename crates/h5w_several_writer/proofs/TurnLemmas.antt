@@ -1,15 +1,19 @@
 -- A part takes its turn in a flush.
-use Rattle.std.proofs.Common.{◌≡◌, ◌<◌, ℕ, List, ◌∷◌, sym, ap, subst, ◌∙◌, inr}
+use Rattle.std.proofs.Common.{◌≡◌, ◌⊎◌, ◌+◌, ◌<◌, ◌≤◌, ℕ, List, ◌∷◌, length, Result, Ok, Err, sym, ap, subst, ◌∙◌, inl, inr, arith, length-append}
 use Rattle.h5w_model.specs.declared.root.Super.{Super}
 use Rattle.h5w_space.specs.Space.{Space}
 use Rattle.h5w_writer.specs.Halves.{IsHalf, places_of}
+use Rattle.h5w_writer.specs.Refusals.{IsSpace}
 use Rattle.h5w_writer.specs.Sessions.{Session}
 use Rattle.h5w_writer.specs.Told.{told_of}
 use Rattle.h5w_writer.specs.declared.planned.Planned.{Planned}
 use Rattle.h5w_writer.specs.declared.planned.Planned.TheVariants.{Alone, Grows, Starts}
+use Rattle.h5w_writer.specs.declared.refusal.FlushError.{FlushError}
+use Rattle.h5w_writer.specs.declared.refusal.FlushError.TheVariants as flushes
 use Rattle.h5w_several_writer.specs.Opened.{places_from}
 use Rattle.h5w_several_writer.specs.Turns.{HasTurned}
-use Rattle.h5w_several_writer_laws.specs.Sessions.{AreFlushed, bare}
+use Rattle.h5w_several_writer.specs.declared.planning.Turn.{Turn}
+use Rattle.h5w_several_writer_laws.specs.Sessions.{AreFlushed, all_pending, bare}
 
 -- places that end there
 pub bared : (e limit : ℕ) (end : Space) → e ≡ end.end → end.limit ≡ limit → places_from e limit ≡ bare end
@@ -35,3 +39,35 @@ pub half_root : (old mid : Session) (p : Planned) → IsHalf old mid p → mid.r
 half_root old mid (Alone ws) h = ap (λ (v : Session). v.root) h.0
 half_root old mid (Grows p) h = ap (λ (v : Session). v.root) h.grown
 half_root old mid (Starts p) h = ap (λ (v : Session). v.root) h.0
+
+-- ---- How many pieces there are
+
+-- another has no more than so many
+pub some_before : (pieces most then room : ℕ) (u : Session) (us : List Session) → length u.pending ≤ most → then ≡ pieces + most → then + length (all_pending us) + 1 ≤ room
+    → pieces + length (all_pending (u ∷ us)) + 1 ≤ room
+some_before pieces most then room u us few is h = omega (arith, length-append u.pending (all_pending us))
+
+pub fewer_before : (pieces most then room : ℕ) (u : Session) (us : List Session) → length u.pending ≤ most → then ≡ pieces + most → then + length (all_pending us) + 1 < room
+    → pieces + length (all_pending (u ∷ us)) + 1 < room
+fewer_before pieces most then room u us few is h = omega (arith, length-append u.pending (all_pending us))
+
+-- ---- Refusals
+
+-- what is done is not refused
+pub done_not : (e : FlushError) → ◌≡◌ {A = Result Unit FlushError} (Ok tt) (Err e) → ⊥
+done_not e is = cc
+
+pub planned_not : (t : Turn) (e : FlushError) → ◌≡◌ {A = Result Turn FlushError} (Ok t) (Err e) → ⊥
+planned_not t e is = cc
+
+-- no plan fails for the image
+pub planned_not_failed : (e : FlushError) → IsSpace e ⊎ ((e ≡ flushes.Deep) ⊎ (e ≡ flushes.OutOfMemory)) → ◌≡◌ {A = Result Unit FlushError} (Err e) (Err flushes.Failed) → ⊥
+planned_not_failed e (inl why) is = let no : flushes.Space why.0 ≡ e = sym why.1 in cc
+planned_not_failed e (inr (inl deep)) is = cc
+planned_not_failed e (inr (inr out)) is = cc
+
+-- a plan that is refused is a flush that is refused
+pub planned_cause : (e : FlushError) → IsSpace e ⊎ ((e ≡ flushes.Deep) ⊎ (e ≡ flushes.OutOfMemory)) → IsSpace e ⊎ ((e ≡ flushes.Deep) ⊎ ((e ≡ flushes.Failed) ⊎ (e ≡ flushes.OutOfMemory)))
+planned_cause e (inl why) = inl why
+planned_cause e (inr (inl deep)) = inr (inl deep)
+planned_cause e (inr (inr out)) = inr (inr (inr out))

@@ -19,8 +19,8 @@ use crate::planning::{begin_part, end_part, undo_part};
 use crate::several::{SeveralWriter, set_aside};
 use h5w_image::PieceWrite;
 use h5w_model::{OutOfMemory, Super};
-use h5w_writer::{FlushError, WriterCore};
 use h5w_space::Places;
+use h5w_writer::{FlushError, WriterCore};
 use std::alloc::Global;
 
 /// Makes room in the image for so many pieces and one more, up to this end.

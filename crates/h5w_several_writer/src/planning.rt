@@ -17,8 +17,8 @@ ghost use Rattle.h5w_several_writer.specs.Turns.{HasTurned, IsBegun, IsPlannedTh
 
 use crate::several::set_aside;
 use h5w_model::{OutOfMemory, Super};
-use h5w_writer::{FlushError, Planned, WriterCore};
 use h5w_space::Places;
+use h5w_writer::{FlushError, Planned, WriterCore};
 use std::alloc::Global;
 use std::mem;
 

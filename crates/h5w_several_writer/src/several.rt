@@ -9,8 +9,8 @@ ghost use Rattle.h5w_several_writer_laws.specs.Sessions.{AreSessions, keeping};
 ghost use Rattle.h5w_several_writer_laws.specs.Standing.{StandsAll};
 
 use h5w_model::Super;
-use h5w_writer::WriterCore;
 use h5w_space::Places;
+use h5w_writer::WriterCore;
 use std::alloc::Global;
 use std::marker::Model;
 

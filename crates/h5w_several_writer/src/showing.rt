@@ -11,8 +11,8 @@ ghost use Rattle.h5w_several_writer_laws.specs.Standing.{StandsAll, and_then};
 
 use crate::several::SeveralWriter;
 use h5w_model::Write;
-use h5w_writer::WriterCore;
 use h5w_space::Places;
+use h5w_writer::WriterCore;
 
 /// How many pieces of these datasets are pending.
 pub(crate) fn pending_in(parts: &[WriterCore]) -> u64

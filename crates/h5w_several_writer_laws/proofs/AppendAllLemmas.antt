@@ -20,7 +20,7 @@ use Rattle.h5w_several_writer_laws.specs.Courses.{AreThrough, stands_of}
 use Rattle.h5w_several_writer_laws.specs.Valid.{AreValidFrom}
 use Rattle.h5w_several_writer_laws.specs.Standing.{AreStandingParts, HasRun, IsStandingPart, StandsOn, and_then, last_image, most_in, rested}
 use Rattle.h5w_several_writer_laws.proofs.RunLemmas.{appended_run}
-use Rattle.h5w_several_writer_laws.proofs.SightLemmas.{each_next, others_values, seen_appended, seen_other}
+use Rattle.h5w_several_writer_laws.proofs.SightLemmas.{others_values, seen_appended, seen_other}
 use Rattle.h5w_several_writer_laws.proofs.FlushAllLemmas.{back_nil, front_nil}
 
 some_is : {A : Type 0} (x y : A) → Some x ≡ Some y → x ≡ y
@@ -48,6 +48,7 @@ module _ (p : PartLaws) (root : Super) (t : Space) (us : List Used) (log : FileL
       | inl h ↦ inl (subst (λ (hs : List Happening). HasRun s.name (let l : Log = record (log_of d b log) { events = hs } in l) [] e) (sym (others_values d n values log.events other)) h)
       | inr u ↦ absurd (u.some refl)
     ];
+    past = record { raised = x.past.raised; addressed = x.past.addressed; next = x.past.next };
     phase = elim x.phase [
       | inl done ↦ inl (record { calm = done.calm; own = done.own; seen = seen_other log d n b done.own values [] other done.seen; runs = done.runs })
       | inr due ↦ absurd (due.some idle)
@@ -76,15 +77,17 @@ module _ (p : PartLaws) (root : Super) (t : Space) (us : List Used) (log : FileL
         let seen = seen_appended log n b done.own values done.seen in
         let is : log_of n b next ≡ and_now (appends values) (log_of n b log) =
         ap (λ (hs : List Happening). let l : Log = record (log_of n b log) { events = hs } in l) (cond-true (n == n) (appends values ∷ seen_by n log.events) (seen_by n log.events) (eq-eqb n n refl)) in
+        let run : HasRun s.name (log_of n b next) [] e = elim x.run [
+          | inl h ↦ subst (λ (l : Log). HasRun s.name l [] e) (sym is) (appended_run s.name (log_of n b log) values e h)
+          | inr u ↦ absurd (u.some refl)
+        ] in
         record {
           name = x.name;
           early = x.early;
           going = x.going;
-          each = each_next s.name log (appends_to n values) (appends values) n b (and_now (appends values) done.own) [] is runs.running.runs.goes.prefixed seen x.each;
-          run = elim x.run [
-            | inl h ↦ inl (subst (λ (l : Log). HasRun s.name l [] e) (sym is) (appended_run s.name (log_of n b log) values e h))
-            | inr u ↦ absurd (u.some refl)
-          ];
+          each = run.runs.goes.prefixed;
+          run = inl run;
+          past = record { raised = x.past.raised; addressed = x.past.addressed; next = x.past.next };
           phase = inl (record {
             calm = done.calm;
             own = and_now (appends values) done.own;
@@ -167,8 +170,9 @@ module _ (p : PartLaws) (root : Super) (t : Space) (us : List Used) (left : List
           each = subst (λ (k : List ℕ). PrefixedEach k (log_of d b log)) (sym name) y.each;
           run = elim y.run [
             | inl h ↦ inl (subst (λ (k : List ℕ). HasRun k (log_of d b log) left e) (sym name) h)
-            | inr u ↦ inr (record { calm = ap (λ (z : Session). z.flushing) x.session ∙ u.calm; some = u.some; first = u.first })
+            | inr u ↦ inr (record { calm = ap (λ (z : Session). z.flushing) x.session ∙ u.calm; some = u.some; new = u.new; first = u.first })
           ];
+          past = y.past;
           phase = inl (record {
             calm = inl (ap (λ (z : Session). z.pending) x.session ∙ idle);
             own = done.own;

@@ -288,7 +288,7 @@ module _ (p : PartLaws) (S : Sessions) (us : List Used) (log : FileLog) (low : I
       let runs = subst (λ (q : Space). RunsAs (rested root t s) [] (told_log next.0 piece x.own) (moved_to root r.after) r.address r.held q) told.1 next.1 in
       let settled = settled_runs s.name x.own r.after r.held r.runs in
       let here : image (image_now x.own) piece ≡ last_image log piece = ap (λ (i : List ℕ). image i piece) (own_image log d b x.own [] x.seen) ∙ sym (last_joined log [] piece) in
-      let most = own_most log d b x.own [] t at x.seen refl low in
+      let most = own_most log d b x.own [] t at x.seen refl in
       let known : KnownHeld (image (image_now x.own) piece) s.name (moved_to root r.after) r.address t r.held = subst (λ (q : Space). KnownHeld (image (image_now x.own) piece) s.name (moved_to root r.after) r.address q r.held) told.1 (record { knows = told.0.knows; is = told.0.holds }) in
       let there = subst (λ (i : List ℕ). KnownHeld i s.name (moved_to root r.after) r.address t r.held) here known in
       let own_one = subst (λ (y : Entry). IsOne (last_image log []) t S.root us y) same one in
@@ -328,7 +328,7 @@ module _ (p : PartLaws) (S : Sessions) (us : List Used) (log : FileLog) (low : I
       let later = closing_ones (suc d) bs (before ++ s.pending) ss es calm.1 x.1 known.1 in
       record {
         parts = (
-          record { name = x.0.name; early = x.0.early; going = x.0.going; each = x.0.each; run = inl (one.run (rest_of d b s e x.0.run)); phase = inl one.done },
+          record { name = x.0.name; early = x.0.early; going = x.0.going; each = x.0.each; run = inl (one.run (rest_of d b s e x.0.run)); past = record { raised = x.0.past.raised; addressed = x.0.past.addressed; next = x.0.past.next }; phase = inl one.done },
           later.parts,
         );
         known = (one.one, later.known);
@@ -355,7 +355,7 @@ module _ (p : PartLaws) (S : Sessions) (us : List Used) (log : FileLog) (low : I
       let own : IsDone root t piece log 0 b (record s { root = root; pending = piece; flushing = false }) (then_as root e) = record { calm = inr refl; own = one.done.own; seen = one.done.seen; runs = one.done.runs } in
       record {
         parts = subst (λ (ws : List Write). AreStandingParts root t us ws log 0 (b ∷ bs) [] (closing_parts root (s ∷ ss)) (all_then root (e ∷ es))) (sym all)
-            (record { name = x.0.name; early = x.0.early; going = x.0.going; each = x.0.each; run = inl (one.run (rest_of 0 b s e x.0.run)); phase = inl own }, later.parts);
+            (record { name = x.0.name; early = x.0.early; going = x.0.going; each = x.0.each; run = inl (one.run (rest_of 0 b s e x.0.run)); past = record { raised = x.0.past.raised; addressed = x.0.past.addressed; next = x.0.past.next }; phase = inl own }, later.parts);
         known = subst (λ (ws : List Write). AreKnown (last_image log ws) t root us (all_then root (e ∷ es))) (sym all) (one.one, later.known);
         ends = subst (λ (ws : List Write). AllEndBy (most_in t log) ws) (sym all) one.ends;
       }

@@ -1,8 +1,8 @@
 -- A flush of several datasets: the session stands for the log with it.
-use Rattle.std.proofs.Common.{◌≡◌, ◌≢◌, ◌⊎◌, ℕ, suc, ◌+◌, ◌-◌, ◌*◌, ◌<◌, true, false, Bool, List, [], ◌∷◌, ◌++◌, length, ℤ, refl, sym, ◌∙◌, ap, subst, inl, inr, arith, length-append, append-nil, append_assoc}
+use Rattle.std.proofs.Common.{◌≡◌, ◌⊎◌, ℕ, suc, ◌+◌, ◌-◌, true, false, Bool, List, [], ◌∷◌, ◌++◌, length, ℤ, refl, sym, ◌∙◌, ap, subst, inl, inr, arith, length-append, append-nil, append_assoc}
 use Rattle.std.specs.Prelude.{take}
 use Rattle.std.proofs.lemmas.List.Sums.{sum_by-cons}
-use Rattle.std.proofs.lemmas.List.{append_cancel_left, length_push, nil_from_length}
+use Rattle.std.proofs.lemmas.List.{append_cancel_left, length_push}
 use Rattle.h5w_model.specs.Images.{image}
 use Rattle.h5w_model.specs.Findings.{Used}
 use Rattle.h5w_model.specs.Logs.{Log, and_now, appended, flushed, plans}
@@ -27,8 +27,8 @@ use Rattle.h5w_several_writer_laws.specs.Sessions.{AreFlushed, FlushesAll, Sessi
 use Rattle.h5w_several_writer_laws.specs.Courses.{AreThrough, stands_of}
 use Rattle.h5w_several_writer_laws.specs.Valid.{AreValidFrom, names_in}
 use Rattle.h5w_several_writer_laws.specs.Standing.{AreStandingParts, HasRun, IsDone, IsOwed, IsStandingPart, IsUnbegun, StandsAll, StandsOn, and_then, last_image, most_in, rested}
-use Rattle.h5w_several_writer_laws.proofs.SightLemmas.{each_next, seen_flushed, seen_planned}
-use Rattle.h5w_several_writer_laws.proofs.RunLemmas.{none_waits, rest_waits, run_rests}
+use Rattle.h5w_several_writer_laws.proofs.SightLemmas.{seen_flushed, seen_planned}
+use Rattle.h5w_several_writer_laws.proofs.RunLemmas.{none_come, none_waits, rest_waits, run_rests, some_count}
 use Rattle.h5w_several_writer_laws.proofs.TurnPartLemmas.{IsPlannedPart, settled_runs}
 use Rattle.h5w_several_writer_laws.proofs.ValidLemmas.{valid_more}
 use Rattle.h5w_several_writer_laws.proofs.CourseLemmas.{AreCounted, flush_course}
@@ -80,18 +80,12 @@ up_to_own (x ∷ front) u uu =
     let next = up_to_next (length front) (length x.pending) (counts_of (front ++ u ∷ uu)) in
     next ∙ omega (arith, later, both)
 
-no_rows : (n cols : ℕ) → n ≡ 0 → n * cols ≡ 0
-no_rows n cols none = ap (λ (k : ℕ). k * cols) none ∙ omega arith
-
 -- where no row waits all is flushed
 pub nothing_waits : (s : Session) (log : Log) (r : Running s [] log) → s.waits ≡ 0 → appended log ≡ flushed log
 nothing_waits s log r none =
     let m = r.after in
     let goes = resting s.name log m r.held r.runs in
-    let early : r.early ≡ [] = nil_from_length r.early (r.written.count ∙ no_rows s.early s.dataset.shape.cols (let some = r.some in omega (arith, some, none))) in
-    let more : r.more ≡ [] = nil_from_length r.more (r.count ∙ no_rows (s.waits - s.early) s.dataset.shape.cols (omega (arith, none))) in
-    let others : r.early ++ r.more ≡ [] = ap (λ (vs : List ℤ). vs ++ r.more) early ∙ more in
-    sym r.appended ∙ ap (λ (vs : List ℤ). m.values ++ vs) others ∙ append-nil m.values ∙ goes.values
+    sym r.appended ∙ ap (λ (vs : List ℤ). m.values ++ vs) (none_come s [] log r none) ∙ append-nil m.values ∙ goes.values
 
 -- ---- From the end of the fold to the session
 
@@ -118,37 +112,37 @@ module _ (last : Super) (end : Space) (us : List Used) (total : List Write) (log
         let settled = settled_runs part.name x.0.own r.after r.held r.runs in
         let values : e.moment.values ≡ appended (log_of d b log) = ap (λ (m : Moment). m.values) (sym x.0.runs.after) ∙ none_waits (rested last end part) [] x.0.own r o.none ∙ x.0.seen.appended in
         let seen = seen_planned log d b x.0.own total x.0.seen settled (nothing_waits (rested last end part) x.0.own r o.none) counts in
+        let all : RunsTo part.name (and_now (plans (up_to d counts)) (log_of d b log)) 0 total e.moment e.held = plan_due.none part.name (log_of d b log) total (up_to d counts) e.moment e.held x.2 values in
         record {
           name = o.inside.name;
           early = o.inside.early;
           going = o.inside.going;
-          each = each_next part.name log (plans_each counts) (plans (up_to d counts)) d b x.0.own total refl r.runs.goes.prefixed seen o.inside.each;
-          run = inl (record { due = 0; runs = plan_due.none part.name (log_of d b log) total (up_to d counts) e.moment e.held x.2 values });
+          each = all.goes.prefixed;
+          run = inl (record { due = 0; runs = all });
+          past = record { raised = o.inside.past.raised; addressed = o.inside.past.addressed; next = o.inside.past.next };
           phase = inl (record { calm = x.0.calm; own = x.0.own; seen = seen; runs = x.0.runs });
         }
-
-    some_length : (ws : List Write) → ws ≢ [] → 0 < length ws
-    some_length [] some = absurd (some refl)
-    some_length (w ∷ ws) some = omega arith
 
     due : IsPlannedPart last end us total log (seat d b before part) e → IsStandingPart last end us total next d b before v behind e
     due x =
         let n = length part.pending in
         let own = and_now (plans n) x.own in
-        let seen = seen_flushed log d b x.own before x.seen x.settled counts n (some_length part.pending x.some) own_count in
+        let seen = seen_flushed log d b x.own before x.seen x.settled counts n (some_count part.pending x.some) own_count in
         let sight : Log = log_of d b log in
         let y = x.whole in
         let many : length (before ++ part.pending) ≡ up_to d counts = length-append before part.pending ∙ sym own_count in
         let all : RunsTo part.name (and_now (plans (length (before ++ part.pending))) sight) (length (before ++ part.pending)) total e.moment e.held =
         subst (λ (ws : List Write). RunsTo part.name (and_now (plans (length (before ++ part.pending))) sight) (length (before ++ part.pending)) ws e.moment e.held) (sym x.cut)
         (plan_due.part part.name sight before part.pending x.behind y.moment y.middle e.moment y.held y.now e.held y.waits y.flush x.some y.values y.plan) in
+        let run : RunsTo part.name (and_now (plans (up_to d counts)) sight) (length (before ++ part.pending)) total e.moment e.held = subst (λ (k : ℕ). RunsTo part.name (and_now (plans k) sight) (length (before ++ part.pending)) total e.moment e.held) many all in
         let same : x.behind ≡ behind = append_cancel_left (before ++ part.pending) x.behind behind (sym x.cut ∙ own_cut) in
         record {
           name = o.inside.name;
           early = o.inside.early;
           going = o.inside.going;
-          each = each_next part.name log (plans_each counts) (plans (up_to d counts)) d b own before refl x.runs.running.runs.goes.prefixed seen o.inside.each;
-          run = inl (record { due = length (before ++ part.pending); runs = subst (λ (k : ℕ). RunsTo part.name (and_now (plans k) sight) (length (before ++ part.pending)) total e.moment e.held) many all });
+          each = run.goes.prefixed;
+          run = inl (record { due = length (before ++ part.pending); runs = run });
+          past = record { raised = o.inside.past.raised; addressed = o.inside.past.addressed; next = o.inside.past.next };
           phase = inr (record {
             some = x.some;
             flushing = x.flushing;
@@ -210,6 +204,7 @@ at_rest root t us left log d (b ∷ bs) before (s ∷ ss) (e ∷ es) none idle x
           early = i.early;
           going = i.going;
           each = i.each;
+          past = i.past;
           phase = elim i.phase [
             | inl done ↦ inl (subst (λ (ws : List Write). IsDone root t ws log d b s e) none done, own, waits i.run)
             | inr due ↦ absurd (due.some own)
@@ -266,7 +261,7 @@ flushes_stand p old new log st idle x =
       blocks = st.blocks;
       parts = stand_parts new.root new.places us total log (counts_of new.parts) [] 0 log.sets [] new.parts f.es refl refl refl refl f.rest;
       fits = omega (arith, f.stretch.fits, same);
-      low = λ new. omega (arith, st.low new, f.stretch.limit);
+      low = omega (arith, st.low, f.stretch.limit);
       ends = subst (λ (n : ℕ). AllEndBy n (pieces_in log.events ++ total)) (sym same) (ends_joined (most_in old.places log) (pieces_in log.events) total before f.stretch.ends);
       going = ap (λ (y : Sessions). y.stopped) x.session ∙ st.going;
       valid = subst (λ (ns : List (List ℕ)). AreValidFrom log.first log.start ns (pieces_in log.events ++ total)) (sym named)

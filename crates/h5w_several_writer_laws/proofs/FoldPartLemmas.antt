@@ -91,7 +91,7 @@ most_same t u log limit = ap (λ (n : ℕ). let x : Space = record u { limit = n
 stretched : (t u end : Space) (log : FileLog) (ws : List Write) → u.limit ≡ t.limit → Stretches u end log ws → Stretches t end log ws
 stretched t u end log ws limit x =
     let most = most_same t u log limit in
-    record { limit = x.limit ∙ limit; fits = omega (arith, x.fits, most); ends = subst (λ (n : ℕ). AllEndBy n ws) most x.ends; low = λ new. omega (arith, x.low new, limit) }
+    record { limit = x.limit ∙ limit; fits = omega (arith, x.fits, most); ends = subst (λ (n : ℕ). AllEndBy n ws) most x.ends; low = omega (arith, x.low, limit) }
 
 -- The last one that had its turn is the first of those that are all through: it led from one end of the file to the next, and has so many pieces at most.
 popped : (last : Super) (t v end : Space) (us : List Used) (log : FileLog) (done : List Seat) (d : ℕ) (b : Begun) (bs : List Begun) (total before : List Write) (n u : Session) (uu : List Session) (own most : ℕ) → u ≡ told_of n last (bare end) → n.waits ≡ 0
@@ -174,7 +174,7 @@ module _ (p : PartLaws) (log : FileLog) (us : List Used) (blocks : (u : Used) �
       let waits = is_waiting root t all d b s e rest.0.1 i in
       elim x [
         | inl none ↦
-            let here : IsIn root t us all log (seat d b all s) e = record { name = i.name; early = i.early; going = i.going; each = i.each; phase = inl (one, rest.0.1, waits) } in
+            let here : IsIn root t us all log (seat d b all s) e = record { name = i.name; early = i.early; going = i.going; each = i.each; past = i.past; phase = inl (one, rest.0.1, waits) } in
             still root last t end all done d b bs s u uu (load (cutting_of s) (log_of d b log)) (load_from (suc d) (map cutting_of ss) bs log) rest.0.1 none.0 none.1 (fold root last t end all (seat d b all s ∷ done) (e ∷ ds) (suc d) bs ss uu es (next_state (last_image log all) t root us ds e es st) (here, in_done) rest.1 fits none.2)
         | inr turn ↦
             let n = turn.0 in
@@ -189,6 +189,7 @@ module _ (p : PartLaws) (log : FileLog) (us : List Used) (blocks : (u : Used) �
               early = none.1;
               going = none.2 ∙ i.going;
               each = subst (λ (k : List ℕ). PrefixedEach k (log_of d b log)) (sym name) i.each;
+              past = turned.past i.past;
               phase = inr turned.planned;
             } in
             let passed = step_all p log us img ws all root n.root t n.places done ds refl turned.done turned.stretch in_done in

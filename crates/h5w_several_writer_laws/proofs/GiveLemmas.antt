@@ -1,62 +1,59 @@
 -- What a session of several datasets tells of each of them.
-use Rattle.std.proofs.Common.{◌≡◌, ℕ, zero, suc, ◌+◌, ◌-◌, ◌/◌, ◌<◌, ◌≤◌, max, List, [], ◌∷◌, ◌++◌, length, ℤ, Some, refl, sym, ◌∙◌, ap, subst, inl, inr, arith}
-use Rattle.std.specs.Prelude.{map, slice_get}
+use Rattle.std.proofs.Common.{◌≡◌, ℕ, zero, suc, ◌+◌, ◌/◌, ◌<◌, ◌≤◌, max, List, [], ◌∷◌, ◌++◌, length, ℤ, Some, refl, sym, ◌∙◌, ap, subst, inl, inr, arith}
+use Rattle.std.specs.Prelude.{map, slice_get, take}
 use Rattle.h5w_model.specs.Findings.{Used}
-use Rattle.h5w_model.specs.Logs.{Log, appended, flushed_rows, needed_chunks}
+use Rattle.h5w_model.specs.Logs.{Log, appended, flushed_rows, needed_chunks, rows_in}
 use Rattle.h5w_model.specs.Datasets.{Described}
-use Rattle.h5w_model.specs.Prefixed.{Held, IsPosition, Prefixed, PrefixedEach, ReadsNow, Still, image_at}
-use Rattle.h5w_model.specs.Several.{Begun, FileLog, log_of}
+use Rattle.h5w_model.specs.Prefixed.{Held, Prefixed, PrefixedEach, ReadsNow, Still, image_at}
+use Rattle.h5w_model.specs.Several.{Begun, FileLog, log_of, pieces_in}
 use Rattle.h5w_model.specs.Tables.{Reading, Shows, format_limits, limit_of, needed}
+use Rattle.h5w_model.specs.Images.{image}
+use Rattle.h5w_model.specs.declared.cell.IndexKind.{IndexKind}
 use Rattle.h5w_model.specs.declared.piece.Write.{Write}
 use Rattle.h5w_model.specs.declared.root.Super.{Super}
-use Rattle.h5w_laws.proofs.LogLemmas.{each_gives_prefixed}
 use Rattle.h5w_space.specs.Space.{Space}
+use Rattle.h5w_step_laws.specs.Moments.{Moment}
+use Rattle.h5w_several_laws.proofs.SeenLemmas.{seen_laws}
 use Rattle.h5w_several_laws.specs.Turns.{Entry}
 use Rattle.h5w_writer.specs.Laws.{IsDatasetOf}
 use Rattle.h5w_writer.specs.Sessions.{Session, rows_of, stopped_of}
 use Rattle.h5w_writer.specs.Stands.{Running, Stands}
 use Rattle.h5w_writer.proofs.LawLemmas.{standing_laws}
+use Rattle.h5w_writer.proofs.PastLemmas.{ends_front, ends_later, ends_take, image_ends}
 use Rattle.h5w_writer.proofs.StandLemmas.{goes_rows, resting}
-use Rattle.h5w_several_writer_laws.specs.Began.{IsAmple, began_end}
 use Rattle.h5w_several_writer_laws.specs.Laws.{PartTells, StandingAllLaws}
-use Rattle.h5w_several_writer_laws.specs.Seen.{IsSeen}
+use Rattle.h5w_several_writer_laws.specs.Seen.{IsOwn}
 use Rattle.h5w_several_writer_laws.specs.Sessions.{Sessions, all_pending, halted_of}
-use Rattle.h5w_several_writer_laws.specs.Standing.{AreStandingParts, IsStandingPart, StandsAll, StandsOn, rested}
-use Rattle.h5w_several_writer_laws.proofs.SeenLemmas.{all_rows, held_seen, many as many_seen, now_seen, part_seen, prefixed_seen, still_seen}
+use Rattle.h5w_several_writer_laws.specs.Standing.{AreStandingParts, IsStandingPart, StandsAll, StandsOn, most_in, rested}
+use Rattle.h5w_several_writer_laws.proofs.SightLemmas.{own_rows}
+use Rattle.h5w_several_writer_laws.proofs.RunTellLemmas.{run_addressed, run_dataset, run_few, run_held, run_now, run_prefixed, run_still}
 use Rattle.h5w_several_writer_laws.proofs.FlushAllLemmas.{back_nil, front_nil, goes_on}
 
 -- ---- One part
 
--- what the file shows at a position, and the part's own log at one of its own
-shown_own : (name : List ℕ) (log : FileLog) (d : ℕ) (b : Begun) (l : Log) (later : List Write) → IsSeen log d b l later → (p : ℕ) (r : Reading) → IsPosition (log_of d b log) p → Shows format_limits (image_at (log_of d b log) p) name r
-    → (q : ℕ) × IsPosition l q × Shows format_limits (image_at l q) name r
-shown_own name log d b l later seen p r at shows =
-    let o = part_seen.position log d b l later seen p at in
-    let q : ℕ = p - length seen.lead in
-    let img = part_seen.images log d b l later seen q (let n = many_seen log d b l later seen in omega (arith, at.reached, n, o.is)) in
-    let here = ap (image_at (log_of d b log)) o.is in
-    (q, o.own, subst (λ (i : List ℕ). Shows format_limits i name r) (here ∙ sym img) shows)
+-- how many rows it has, flushed and appended
+record HasRows (log : FileLog) (d : ℕ) (b : Begun) (s : Session) : Type 0 where
+  columns : b.columns ≡ s.dataset.shape.cols
+  some_columns : 0 < s.dataset.shape.cols
+  flushed_rows : s.committed ≡ flushed_rows (log_of d b log)
+  appended_rows : rows_of s ≡ rows_in (log_of d b log) (appended (log_of d b log))
 
 -- a session that runs over a part's own log, with what is left of its pieces
-runs_tell : (log : FileLog) (d : ℕ) (b : Begun) (l : Log) (later left : List Write) (s : Session) → IsSeen log d b l later → left ≡ s.pending → Running s left l → PrefixedEach s.name (log_of d b log) → PartTells log d b s
-runs_tell log d b l later left s seen is r each =
+runs_rows : (log : FileLog) (d : ℕ) (b : Begun) {limit : ℕ} (l : Log) (later left : List Write) (s : Session) → IsOwn limit log d b l later → left ≡ s.pending → Running s left l → HasRows log d b s
+runs_rows log d b {limit} l later left s seen is r =
     let goes = r.runs.goes in
     let st : Stands s l = record { left = left; dropped = inl is; phase = inr r; prefixed = goes.prefixed; still = goes.still } in
-    let prefixed = each_gives_prefixed s.name l goes.prefixed in
     record {
       columns = sym seen.columns ∙ standing_laws.columns s l st;
       some_columns = standing_laws.some_columns s l st;
-      flushed_rows = standing_laws.flushed_rows s l st ∙ all_rows log d b l later seen;
+      flushed_rows = standing_laws.flushed_rows s l st ∙ own_rows log d b l later seen;
       appended_rows = standing_laws.appended_rows s l st ∙ ap (λ (c : ℕ). length (appended l) / c) seen.columns ∙ ap (λ (vs : List ℤ). length vs / b.columns) seen.appended;
-      each = each;
-      prefixed = prefixed_seen log d b l later seen s.name prefixed;
-      still = still_seen log d b l later seen s.name goes.still;
-      held = held_seen log d b l later seen s.name prefixed goes.still;
-      now = now_seen log d b l later seen s.name goes.prefixed;
-      dataset = λ p r at shows. let o = shown_own s.name log d b l later seen p r at shows in standing_laws.dataset s l o.0 r st o.1 o.2;
-      few = λ p r at shows. let o = shown_own s.name log d b l later seen p r at shows in standing_laws.few s l o.0 r st o.1 o.2;
-      addressed = λ bare p r at shows. let o = shown_own s.name log d b l later seen p r at shows in standing_laws.addressed s l o.0 r st (seen.values ∙ bare) o.1 o.2;
     }
+
+-- it is where its moment is
+record IsMoment (s : Session) (e : Entry) : Type 0 where
+  place : e.moment.place ≡ s.place
+  dataset : e.moment.dataset ≡ s.dataset
 
 -- a reading is of a dataset by what that says, and by where its header stands
 dataset_like : (s t : Session) (r : Reading) → t.place ≡ s.place → t.dataset ≡ s.dataset → IsDatasetOf s r → IsDatasetOf t r
@@ -99,19 +96,49 @@ tells_like log d b s t name place dataset committed waits x =
     by_name : (p : ℕ) (r : Reading) → Shows format_limits (image_at (log_of d b log) p) t.name r → Shows format_limits (image_at (log_of d b log) p) s.name r
     by_name p r shows = subst (λ (n : List ℕ). Shows format_limits (image_at (log_of d b log) p) n r) name shows
 
-part_tells : (root : Super) (t : Space) (us : List Used) (left : List Write) (log : FileLog) (d : ℕ) (b : Begun) (before : List Write) (s : Session) (behind : List Write) (e : Entry) → IsStandingPart root t us left log d b before s behind e → PartTells log d b s
-part_tells root t us left log d b before s behind e x = elim x.phase [
-  | inl done ↦
-      tells_like log d b (rested root t s) s refl refl refl refl refl (runs_tell log d b done.own left [] (rested root t s) done.seen refl done.runs.running x.each)
-  | inr due ↦
-      let v : Session = due.was in
-      let w : Session = record v { pending = s.pending } in
-      let name : s.name ≡ v.name = ap (λ (y : Session). y.name) due.told in
-      let each = subst (λ (n : List ℕ). PrefixedEach n (log_of d b log)) name x.each in
-      let pending : s.pending ≡ v.pending = ap (λ (y : Session). y.pending) due.told in
-      tells_like log d b v s name (ap (λ (y : Session). y.place) due.told) (ap (λ (y : Session). y.dataset) due.told) (ap (λ (y : Session). y.committed) due.told) (ap (λ (y : Session). y.waits) due.told)
-      (runs_tell log d b due.own before s.pending v due.seen pending due.runs.running each)
-]
+module _ (root : Super) (t : Space) (us : List Used) (left : List Write) (log : FileLog) (d : ℕ) (b : Begun) (before : List Write) (s : Session) (behind : List Write) (e : Entry) (x : IsStandingPart root t us left log d b before s behind e) where
+  part_rows : HasRows log d b s
+  part_rows = elim x.phase [
+    | inl done ↦
+        let r = runs_rows log d b done.own left [] (rested root t s) done.seen refl done.runs.running in
+        record { columns = r.columns; some_columns = r.some_columns; flushed_rows = r.flushed_rows; appended_rows = r.appended_rows }
+    | inr due ↦
+        let r = runs_rows log d b due.own before s.pending due.was due.seen (ap (λ (y : Session). y.pending) due.told) due.runs.running in
+        subst (λ (y : Session). HasRows log d b y) (sym due.told) (record { columns = r.columns; some_columns = r.some_columns; flushed_rows = r.flushed_rows; appended_rows = r.appended_rows })
+  ]
+
+  part_moment : IsMoment s e
+  part_moment = elim x.phase [
+    | inl done ↦
+        let r = done.runs.running in
+        record { place = ap (λ (m : Moment). m.place) (sym done.runs.after) ∙ r.keeps.place; dataset = ap (λ (m : Moment). m.dataset) (sym done.runs.after) ∙ r.keeps.dataset }
+    | inr due ↦
+        let r = due.runs.running in
+        record {
+          place = ap (λ (m : Moment). m.place) (due.moment_is) ∙ ap (λ (m : Moment). m.place) (sym due.runs.after) ∙ r.keeps.place ∙ sym (ap (λ (y : Session). y.place) due.told);
+          dataset = ap (λ (m : Moment). m.dataset) (due.moment_is) ∙ ap (λ (m : Moment). m.dataset) (sym due.runs.after) ∙ r.keeps.dataset ∙ sym (ap (λ (y : Session). y.dataset) due.told);
+        }
+  ]
+
+  part_tells : PartTells log d b s
+  part_tells =
+      let rows = part_rows in
+      let at = part_moment in
+      let is = run_dataset log d b left s e x.run x.each at.place at.dataset in
+      record {
+        columns = rows.columns;
+        some_columns = rows.some_columns;
+        flushed_rows = rows.flushed_rows;
+        appended_rows = rows.appended_rows;
+        each = x.each;
+        prefixed = run_prefixed log d b left s e x.run x.each;
+        still = run_still log d b left s e x.run x.each;
+        held = run_held log d b left s e x.run x.each;
+        now = run_now log d b left s e x.run x.each;
+        dataset = is;
+        few = λ p r here shows. subst (λ (k : IndexKind). needed r.dataset ≤ limit_of format_limits k) (is p r here shows).index (run_few log d b left s e x.run x.each p r here shows);
+        addressed = run_addressed log d b left s e x.run x.each x.name x.past;
+      }
 
 -- ---- All parts
 
@@ -193,46 +220,7 @@ all_sets S log st =
 
 -- ---- The image's length
 
-part_fits : (root : Super) (t : Space) (us : List Used) (left : List Write) (log : FileLog) (d : ℕ) (b : Begun) (before : List Write) (s : Session) (behind : List Write) (e : Entry) → IsAmple t log → IsStandingPart root t us left log d b before s behind e
-    → (p : ℕ) → IsPosition (log_of d b log) p → length (image_at (log_of d b log) p) ≤ max t.limit (length log.start)
-part_fits root t us left log d b before s behind e low x p at = elim x.phase [
-  | inl done ↦ own_fits (rested root t s) [] done.own left done.seen refl done.runs.running refl
-  | inr due ↦ own_fits due.was s.pending due.own before due.seen (ap (λ (y : Session). y.pending) due.told) due.runs.running (sym due.limit)
-]
-  where
-    within : (a b c : ℕ) → a ≤ b → b ≤ c → a ≤ c
-    within a b c low high = omega (arith, low, high)
-
-    own_fits : (v : Session) (ws : List Write) (l : Log) (later : List Write) → IsSeen log d b l later → ws ≡ v.pending → Running v ws l → v.places.limit ≡ t.limit → length (image_at (log_of d b log) p) ≤ max t.limit (length log.start)
-    own_fits v ws l later seen is r limit =
-        let goes = r.runs.goes in
-        let st : Stands v l = record { left = ws; dropped = inl is; phase = inr r; prefixed = goes.prefixed; still = goes.still } in
-        let o = part_seen.position log d b l later seen p at in
-        let q : ℕ = p - length seen.lead in
-        let own = standing_laws.fits v l q st o.own in
-        let img = part_seen.images log d b l later seen q (let n = many_seen log d b l later seen in omega (arith, at.reached, n, o.is)) in
-        let here = ap (image_at (log_of d b log)) o.is in
-        elim seen.begins [
-          | inl same ↦ let start = ap length same.0 in omega (arith, own, ap length img, ap length here, start, limit)
-          | inr new ↦ let bytes = within (length l.start) (began_end log) t.limit new.2 (low new.0) in omega (arith, own, ap length img, ap length here, bytes, limit)
-        ]
-
-parts_fit : (root : Super) (t : Space) (us : List Used) (left : List Write) (log : FileLog) (k : ℕ) (bs : List Begun) (before : List Write) (ss : List Session) (es : List Entry) → IsAmple t log → AreStandingParts root t us left log k bs before ss es
-    → (i d : ℕ) (b : Begun) → d ≡ k + i → slice_get bs i ≡ Some b → (p : ℕ) → IsPosition (log_of d b log) p → length (image_at (log_of d b log) p) ≤ max t.limit (length log.start)
-parts_fit root t us left log k [] before [] [] low x i d b is set p at = absurd cc
-parts_fit root t us left log k (c ∷ bs) before (u ∷ ss) (e ∷ es) low x zero d b is set p at =
-    let number : d ≡ k = omega (arith, is) in
-    let same : b ≡ c = sym (some_is c b set) in
-    let here = subst (λ (n : ℕ). IsPosition (log_of n c log) p) number (subst (λ (y : Begun). IsPosition (log_of d y log) p) same at) in
-    let fits = part_fits root t us left log k c before u (all_pending ss) e low x.0 p here in
-    subst (λ (n : ℕ). length (image_at (log_of n b log) p) ≤ max t.limit (length log.start)) (sym number) (subst (λ (y : Begun). length (image_at (log_of k y log) p) ≤ max t.limit (length log.start)) (sym same) fits)
-parts_fit root t us left log k (c ∷ bs) before (u ∷ ss) (e ∷ es) low x (suc i) d b is set p at = parts_fit root t us left log (suc k) bs (before ++ u.pending) ss es low x.1 i d b (omega (arith, is)) set p at
-parts_fit root t us left log k [] before (u ∷ ss) es low x i d b is set p at = absurd x
-parts_fit root t us left log k [] before [] (e ∷ es) low x i d b is set p at = absurd x
-parts_fit root t us left log k (c ∷ bs) before [] es low x i d b is set p at = absurd x
-parts_fit root t us left log k (c ∷ bs) before (u ∷ ss) [] low x i d b is set p at = absurd x
-
-same_places : (S : Sessions) (log : FileLog) (st : StandsAll S log) → S.places ≡ st.was.places
+pub same_places : (S : Sessions) (log : FileLog) (st : StandsAll S log) → S.places ≡ st.was.places
 same_places S log st = elim st.is [
   | inl same ↦ ap (λ (x : Sessions). x.places) same
   | inr ended ↦
@@ -242,11 +230,18 @@ same_places S log st = elim st.is [
       ]
 ]
 
-all_fit : (S : Sessions) (log : FileLog) → StandsAll S log → (d : ℕ) (b : Begun) → slice_get log.sets d ≡ Some b → (p : ℕ) → IsPosition (log_of d b log) p → length (image_at (log_of d b log) p) ≤ max S.places.limit (length log.start)
-all_fit S log st d b set p at =
+all_fit : (S : Sessions) (log : FileLog) → StandsAll S log → (d : ℕ) (b : Begun) → (p : ℕ) → length (image_at (log_of d b log) p) ≤ max S.places.limit (length log.start)
+all_fit S log st d b p =
     let on = st.stands in
-    let fits = parts_fit st.was.root st.was.places on.ranges (all_pending st.was.parts) log 0 log.sets [] st.was.parts on.entries on.low on.parts d d b (let z : d ≡ 0 + d = omega arith in z) set p at in
-    subst (λ (t : Space). length (image_at (log_of d b log) p) ≤ max t.limit (length log.start)) (sym (same_places S log st)) fits
+    let t = st.was.places in
+    let most = most_in t log in
+    let end = max t.limit (length log.start) in
+    let less : most ≤ end = let low = on.low in omega (arith, low) in
+    let shown : List Write = take p (pieces_in log.events) in
+    let whole = ends_take most p (pieces_in log.events) (ends_front most (pieces_in log.events) (all_pending st.was.parts) on.ends) in
+    let fits = image_ends end log.start shown (omega arith) (ends_later most end shown less whole) in
+    let here = subst (λ (ws : List Write). length (image log.start (take p ws)) ≤ end) (sym (seen_laws.pieces d log.events)) fits in
+    subst (λ (u : Space). length (image_at (log_of d b log) p) ≤ max u.limit (length log.start)) (sym (same_places S log st)) here
 
 -- ---- The rows planned
 
@@ -255,7 +250,7 @@ part_planned : (root : Super) (t : Space) (us : List Used) (left : List Write) (
 part_planned root t us left log d b before s behind e idle x = elim x.phase [
   | inl done ↦
       let r = done.runs.running in
-      sym (all_rows log d b done.own left done.seen) ∙ goes_rows s.name done.own r.after r.held (resting s.name done.own r.after r.held r.runs) ∙ ap (λ (y : Described). y.shape.rows) r.keeps.dataset
+      sym (own_rows log d b done.own left done.seen) ∙ goes_rows s.name done.own r.after r.held (resting s.name done.own r.after r.held r.runs) ∙ ap (λ (y : Described). y.shape.rows) r.keeps.dataset
   | inr due ↦ absurd (due.some idle)
 ]
 
@@ -278,7 +273,7 @@ pub standing_all : StandingAllLaws
 standing_all = record {
   tells = all_tell;
   sets = all_sets;
-  fits = λ S log st d b s set part p at. all_fit S log st d b set p at;
+  fits = λ S log st d b s set part p at. all_fit S log st d b p;
   planned_rows = λ S log st going idle d b s set part.
       let on = goes_on S log st going in
       parts_planned S.root S.places on.ranges (all_pending S.parts) log 0 log.sets [] S.parts on.entries idle on.parts d d b s (let z : d ≡ 0 + d = omega arith in z) set part;

@@ -3,11 +3,14 @@ pub mod SightLemmas
 pub mod ValidLemmas
 pub mod PassedLemmas
 pub mod RunLemmas
+pub mod AddressedLemmas
+pub mod PastLemmas
 pub mod TurnPartLemmas
 pub mod FoldPartLemmas
 pub mod ValidFlushLemmas
 pub mod CourseLemmas
 pub mod FlushAllLemmas
+pub mod RunTellLemmas
 pub mod GiveLemmas
 pub mod ShownLemmas
 pub mod ShownAllLemmas

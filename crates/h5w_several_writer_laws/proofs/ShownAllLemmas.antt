@@ -1,27 +1,35 @@
 -- What a session of several datasets is once its oldest pending piece became visible.
-use Rattle.std.proofs.Common.{◌≡◌, ◌⊎◌, ℕ, suc, true, false, Bool, List, [], ◌∷◌, ◌++◌, refl, sym, ◌∙◌, ap, subst, inl, inr, arith, append_assoc}
+use Rattle.std.proofs.Common.{◌≡◌, ◌⊎◌, ℕ, suc, true, false, Bool, List, [], ◌∷◌, ◌++◌, length, ℤ, refl, sym, ◌∙◌, ap, subst, inl, inr, arith, append-nil, append_assoc}
+use Rattle.std.specs.Prelude.{nat_lt, if◌then◌else◌}
+use Rattle.std.proofs.lemmas.Bool.{cond-true, lt-ltb}
 use Rattle.h5w_model.specs.Images.{image}
 use Rattle.h5w_model.specs.Findings.{Used}
-use Rattle.h5w_model.specs.Logs.{and_now, shows}
-use Rattle.h5w_model.specs.Prefixed.{PrefixedEach}
+use Rattle.h5w_model.specs.Logs.{and_now, flushed, flushed_in, shows}
 use Rattle.h5w_model.specs.Several.{Begun, FileLog, log_of, pieces_in, shows_all}
+use Rattle.h5w_model.specs.Tables.{Reading, Shows, format_limits}
 use Rattle.h5w_model.specs.declared.piece.Write.{Write}
 use Rattle.h5w_model.specs.declared.root.Super.{Super}
 use Rattle.h5w_space.specs.Space.{Space}
 use Rattle.h5w_step_laws.specs.Logs.{image_now}
+use Rattle.h5w_step_laws.specs.Moments.{Moment, Represents, reading_of}
 use Rattle.h5w_step_laws.proofs.GoesLemmas.{image_pushed}
+use Rattle.h5w_several_laws.specs.Beside.{with_root}
 use Rattle.h5w_several_laws.specs.Together.{names_of}
 use Rattle.h5w_several_laws.specs.Turns.{AreKnown, Entry, IsOne}
+use Rattle.h5w_writer.specs.Past.{AllAddressed}
+use Rattle.h5w_writer.proofs.AddressedLemmas.{shown_addressed}
 use Rattle.h5w_writer.specs.Sessions.{AfterPiece, AllEndBy, Freed, Session, Settles}
 use Rattle.h5w_writer.proofs.StandLemmas.{freed_keeps, freed_or_kept}
 use Rattle.h5w_writer.specs.PartLaws.{PartLaws}
+use Rattle.h5w_several_writer_laws.specs.Seen.{IsOwn}
 use Rattle.h5w_several_writer_laws.specs.Sessions.{AfterPieceOf, AreShown, Sessions, all_pending}
 use Rattle.h5w_several_writer_laws.specs.Courses.{AreThrough, stands_of}
 use Rattle.h5w_several_writer_laws.specs.Valid.{AreValidFrom}
 use Rattle.h5w_several_writer_laws.specs.Standing.{AreStandingParts, HasRun, IsDone, IsDue, IsStandingPart, IsUnbegun, StandsOn, and_then, last_image, most_in, rested}
-use Rattle.h5w_several_writer_laws.proofs.ShownLemmas.{calm_after, due_last, due_more, each_seen, left_is, part_behind, part_idle, shown_left, shown_log}
-use Rattle.h5w_several_writer_laws.proofs.RunLemmas.{next_run, shown_run}
-use Rattle.h5w_several_writer_laws.proofs.SightLemmas.{seen_shown}
+use Rattle.h5w_several_writer_laws.proofs.ShownLemmas.{calm_after, due_last, due_more, left_is, part_behind, part_idle, shown_left, shown_log}
+use Rattle.h5w_several_writer_laws.proofs.RunLemmas.{next_run, run_each, shown_run}
+use Rattle.h5w_several_writer_laws.proofs.PastLemmas.{past_level, past_shown}
+use Rattle.h5w_several_writer_laws.proofs.SightLemmas.{seen_own, seen_shown}
 use Rattle.h5w_several_writer_laws.proofs.TurnPartLemmas.{IsWithin, ends_back, last_joined, own_image}
 use Rattle.h5w_several_writer_laws.proofs.FlushAllLemmas.{back_nil, front_nil, not_both}
 
@@ -33,23 +41,48 @@ module _ (p : PartLaws) (root : Super) (t : Space) (us : List Used) (w : Write) 
       → IsStandingPart root t us left (shown_log w log) d b [] u behind e
   calm_part d b s u ws behind e calm is x done =
       let seen = seen_shown log d b done.own w left done.seen in
+      let next : s.flushing ≡ false → IsDone root t left (shown_log w log) d b s e = λ c. record { calm = inr c; own = done.own; seen = seen; runs = done.runs } in
+      let run = next_run root t w left log d b s e x.run next in
       subst (λ (y : Session). IsStandingPart root t us left (shown_log w log) d b [] y behind e) (sym is) (record {
         name = x.name;
         early = x.early;
         going = x.going;
-        each = each_seen root t us left w log d b s.name done.own left done.runs.running.runs.goes.prefixed seen x.each;
-        run = elim (next_run root t w left log d b s e x.run (λ c. record { calm = inr c; own = done.own; seen = seen; runs = done.runs })
-            (each_seen root t us left w log d b s.name done.own left done.runs.running.runs.goes.prefixed seen x.each)) [
-              | inl h ↦ inl h
-              | inr u ↦ inr (record { calm = u.calm; some = u.some; first = u.first })
-            ];
+        each = run_each (shown_log w log) d b left s e run;
+        run = elim run [
+          | inl h ↦ inl h
+          | inr u ↦ inr (record { calm = u.calm; some = u.some; new = u.new; first = u.first })
+        ];
+        past = past_level root t w left log d b s e x.name x.run next (sym seen.now ∙ done.seen.now) x.past;
         phase = inl (record { calm = inr calm; own = done.own; seen = seen; runs = done.runs });
       })
 
   -- of a flush: there is a file already
-  own_run : (d : ℕ) (b : Begun) (s : Session) (e : Entry) → s.flushing ≡ true → HasRun s.name (log_of d b log) (w ∷ left) e ⊎ IsUnbegun log (w ∷ left) s → HasRun s.name (log_of d b (shown_log w log)) left e
-  own_run d b s e busy (inl h) = shown_run s.name (log_of d b log) w left e h
+  own_run : (d : ℕ) (b : Begun) (s : Session) (e : Entry) → s.flushing ≡ true → HasRun s.name (log_of d b log) (w ∷ left) e ⊎ IsUnbegun log (w ∷ left) s → HasRun s.name (log_of d b log) (w ∷ left) e
+  own_run d b s e busy (inl h) = h
   own_run d b s e busy (inr u) = absurd (not_both s.flushing busy u.calm)
+
+  -- the last of its own pieces: the image is that of the moment that was planned
+  last_addressed : (d : ℕ) (b : Begun) (s : Session) (behind : List Write) (e : Entry) → s.pending ≡ w ∷ [] → e.name ≡ s.name → (due : IsDue root t us log d b [] s behind e) → AllAddressed (reading_of e.moment)
+      → (r : Reading) → Shows format_limits (image log.start (pieces_in log.events ++ w ∷ [])) e.name r → AllAddressed r
+  last_addressed d b s behind e is name due a r seen =
+      let own = and_now (shows w) due.own in
+      let m = with_root us due.moment in
+      let img : List ℕ = image log.start (pieces_in log.events ++ w ∷ []) in
+      let there : image (image_now due.own) s.pending ≡ img =
+      ap (image (image_now due.own)) is ∙ sym (image_pushed due.own w) ∙ own_image (shown_log w log) d b own [] (seen_own log d b due.own w due.seen) ∙ ap (image log.start) (append-nil (pieces_in log.events ++ w ∷ [])) in
+      let file = subst (λ (n : List ℕ). Represents img n m) (sym name) (subst (λ (i : List ℕ). Represents i s.name m) there due.owed.file) in
+      shown_addressed img e.name m r file (subst (λ (n : Moment). AllAddressed (reading_of n)) due.moment_is a) seen
+
+  -- one that is not the last brings no rows
+  own_level : (d : ℕ) (b : Begun) (s : Session) (y : Write) (ws behind : List Write) (e : Entry) → s.pending ≡ w ∷ y ∷ ws → (due : IsDue root t us log d b [] s behind e) → flushed (and_now (shows w) due.own) ≡ flushed due.own
+  own_level d b s y ws behind e is due =
+      let runs = due.runs.running.runs in
+      let old : List ℤ = runs.before.values in
+      let last : List ℤ = due.runs.running.after.values in
+      let at : (k : ℕ) → flushed_in k due.own.values due.own.events ≡ (if nat_lt k (length (w ∷ y ∷ ws)) then old else last) =
+      λ k. subst (λ (vs : List Write). flushed_in k due.own.values due.own.events ≡ (if nat_lt k (length vs) then old else last)) is (runs.flushed k) in
+      at 1 ∙ cond-true (nat_lt 1 (length (w ∷ y ∷ ws))) old last (lt-ltb 1 (length (w ∷ y ∷ ws)) (omega arith))
+      ∙ sym (at 0 ∙ cond-true (nat_lt 0 (length (w ∷ y ∷ ws))) old last (lt-ltb 0 (length (w ∷ y ∷ ws)) (omega arith)))
 
   due_part : (d : ℕ) (b : Begun) (s u : Session) (ws behind : List Write) (e : Entry) → s.pending ≡ w ∷ ws → AfterPiece s ws u → left ≡ ws ++ behind → IsOne (last_image log (w ∷ left)) t root us e → IsWithin t log → AllEndBy (most_in t log) left
       → IsStandingPart root t us (w ∷ left) log d b [] s behind e → IsDue root t us log d b [] s behind e → IsStandingPart root t us left (shown_log w log) d b [] u behind e
@@ -62,24 +95,29 @@ module _ (p : PartLaws) (root : Super) (t : Space) (us : List Used) (w : Write) 
       let done = due_last p root t us w log d b s behind e due is x.early x.name (subst (λ (i : List ℕ). IsOne i t root us e) here one) fits (subst (λ (vs : List Write). AllEndBy (most_in t log) vs) cut ends) u after in
       let settled = subst (λ (f : Bool). Settles f s u) due.flushing after in
       let name = ap (λ (y : Session). y.name) settled.1 in
+      let had = own_run d b s e due.flushing x.run in
+      let run : HasRun u.name (log_of d b (shown_log w log)) left e = subst (λ (n : List ℕ). HasRun n (log_of d b (shown_log w log)) left e) (sym name) (shown_run s.name (log_of d b log) w left e had) in
       record {
         name = x.name ∙ sym name;
         early = ap (λ (y : Session). y.early) settled.1 ∙ x.early;
         going = ap (λ (y : Session). y.stopped) settled.1 ∙ x.going;
-        each = subst (λ (n : List ℕ). PrefixedEach n (log_of d b (shown_log w log))) (sym name)
-            (each_seen root t us left w log d b s.name done.own behind (subst (λ (n : List ℕ). PrefixedEach n done.own) name done.runs.running.runs.goes.prefixed) done.seen x.each);
-        run = inl (subst (λ (n : List ℕ). HasRun n (log_of d b (shown_log w log)) left e) (sym name) (own_run d b s e due.flushing x.run));
+        each = run.runs.goes.prefixed;
+        run = inl run;
+        past = past_shown log b w e d left (subst (λ (n : List ℕ). HasRun n (log_of d b log) (w ∷ left) e) (sym x.name) had) (λ bare. inr (last_addressed d b s behind e is x.name due (x.past.next bare))) x.past;
         phase = inl (subst (λ (vs : List Write). IsDone root t vs (shown_log w log) d b u e) (sym cut) done);
       }
   due_part d b s u (y ∷ ws) behind e is after cut one fits ends x due =
       let next = due_more p root t us w log d b s behind e due y ws is in
-      let name = ap (λ (z : Session). z.name) next.told in
+      let had = own_run d b s e due.flushing x.run in
+      let run = shown_run s.name (log_of d b log) w left e had in
+      let level = sym (seen_own log d b due.own w due.seen).now ∙ own_level d b s y ws behind e is due ∙ due.seen.now in
       subst (λ (z : Session). IsStandingPart root t us left (shown_log w log) d b [] z behind e) (sym after) (record {
         name = x.name;
         early = x.early;
         going = x.going;
-        each = each_seen root t us left w log d b s.name next.own [] (subst (λ (n : List ℕ). PrefixedEach n next.own) (sym name) next.runs.running.runs.goes.prefixed) next.seen x.each;
-        run = inl (own_run d b s e due.flushing x.run);
+        each = run.runs.goes.prefixed;
+        run = inl run;
+        past = past_shown log b w e d left (subst (λ (n : List ℕ). HasRun n (log_of d b log) (w ∷ left) e) (sym x.name) had) (λ bare. inl level) x.past;
         phase = inr next;
       })
 
@@ -136,6 +174,7 @@ module _ (p : PartLaws) (root : Super) (t : Space) (us : List Used) (w : Write) 
         going = x.going;
         each = x.each;
         run = x.run;
+        past = x.past;
         phase = elim x.phase [
           | inl done ↦ inl done
           | inr due ↦ absurd (due.some idle)
@@ -165,6 +204,7 @@ module _ (p : PartLaws) (keeps : Bool) (root : Super) (t v : Space) (us : List U
     going = x.going;
     each = x.each;
     run = x.run;
+    past = x.past;
     phase = elim x.phase [
       | inl done ↦
           let r = done.runs.running in
@@ -172,7 +212,7 @@ module _ (p : PartLaws) (keeps : Bool) (root : Super) (t v : Space) (us : List U
           inl (record {
             calm = done.calm;
             own = done.own;
-            seen = done.seen;
+            seen = subst (λ (n : ℕ). IsOwn n log d b done.own left) (sym (freed_keeps keeps t v freed).1) done.seen;
             runs = record {
               running = next.running;
               after = next.after ∙ done.runs.after;
@@ -206,7 +246,7 @@ freed_stands p S v keeps log freed idle st =
       blocks = st.blocks;
       parts = parts_freed p keeps S.root S.places v st.ranges log freed (all_pending S.parts) 0 log.sets [] S.parts st.entries idle st.parts;
       fits = omega (arith, st.fits, kept.0, most);
-      low = λ new. omega (arith, st.low new, kept.1);
+      low = omega (arith, st.low, kept.1);
       ends = subst (λ (n : ℕ). AllEndBy n (pieces_in log.events ++ all_pending S.parts)) (sym most) st.ends;
       going = st.going;
       valid = st.valid;

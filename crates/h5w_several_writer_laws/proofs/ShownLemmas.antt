@@ -4,8 +4,7 @@ use Rattle.std.proofs.lemmas.List.Sorted.{IsPermutation-refl}
 use Rattle.h5w_model.specs.Images.{image}
 use Rattle.h5w_model.specs.Findings.{Used}
 use Rattle.h5w_model.specs.Logs.{Log, and_now, shows}
-use Rattle.h5w_model.specs.Prefixed.{PrefixedEach}
-use Rattle.h5w_model.specs.Several.{Begun, FileLog, log_of, shows_all}
+use Rattle.h5w_model.specs.Several.{Begun, FileLog, shows_all}
 use Rattle.h5w_model.specs.declared.cell.Key.{Key}
 use Rattle.h5w_model.specs.declared.piece.Write.{Write}
 use Rattle.h5w_model.specs.declared.root.Super.{Super}
@@ -23,13 +22,14 @@ use Rattle.h5w_writer.specs.Sessions.{AfterPiece, AllEndBy, Freed, Session, Sett
 use Rattle.h5w_writer.specs.Told.{moved_to}
 use Rattle.h5w_writer.proofs.StandLemmas.{freed_keeps, resting}
 use Rattle.h5w_writer.specs.PartLaws.{ArePassed, PartLaws, RunsAs, rooted}
-use Rattle.h5w_several_writer_laws.specs.Seen.{IsSeen}
+use Rattle.h5w_several_writer_laws.specs.Seen.{IsOwn}
 use Rattle.h5w_several_writer_laws.specs.Sessions.{AreShown, all_pending}
 use Rattle.h5w_several_writer_laws.specs.Standing.{IsDone, IsDue, IsOwed, IsStandingPart, and_then, most_in, rested}
 use Rattle.h5w_several_writer_laws.proofs.PassedLemmas.{IsPassedBy}
 use Rattle.h5w_several_writer_laws.proofs.FlushAllLemmas.{not_both}
-use Rattle.h5w_several_writer_laws.proofs.RunLemmas.{next_run}
-use Rattle.h5w_several_writer_laws.proofs.SightLemmas.{each_next, seen_own, seen_shown}
+use Rattle.h5w_several_writer_laws.proofs.RunLemmas.{next_run, run_each}
+use Rattle.h5w_several_writer_laws.proofs.PastLemmas.{past_level}
+use Rattle.h5w_several_writer_laws.proofs.SightLemmas.{seen_own, seen_shown}
 use Rattle.h5w_several_writer_laws.proofs.TurnPartLemmas.{IsWithin, Stretches, entry, own_image, step_done}
 
 -- ---- What is free then
@@ -79,28 +79,33 @@ runs_on s t left ws l o m a held rest place x y = record { running = y.running; 
 
 -- the piece counted as shown
 module _ (root : Super) (t : Space) (us : List Used) (left : List Write) (w : Write) (log : FileLog) (d : ℕ) (b : Begun) where
-  pub each_seen : (name : List ℕ) (own : Log) (later : List Write) → PrefixedEach name own → IsSeen (shown_log w log) d b own later → PrefixedEach name (log_of d b log) → PrefixedEach name (log_of d b (shown_log w log))
-  each_seen name own later prefixed seen each = each_next name log (shows_all w) (shows w) d b own later refl prefixed seen each
-
   part_told : (before : List Write) (s : Session) (behind : List Write) (e : Entry) → IsDone root t (w ∷ left) log d b s e → IsDone root t left (shown_log w log) d b s e
   part_told before s behind e x = record { calm = x.calm; own = x.own; seen = seen_shown log d b x.own w left x.seen; runs = x.runs }
 
   pub part_behind : (before : List Write) (s : Session) (behind : List Write) (e : Entry) → IsStandingPart root t us (w ∷ left) log d b (w ∷ before) s behind e → IsStandingPart root t us left (shown_log w log) d b before s behind e
   part_behind before s behind e x = elim x.phase [
     | inl done ↦
-        let next = part_told before s behind e done in
-        let each = each_seen s.name next.own left next.runs.running.runs.goes.prefixed next.seen x.each in
-        record { name = x.name; early = x.early; going = x.going; each = each; run = next_run root t w left log d b s e x.run (λ calm. next) each; phase = inl next }
-    | inr due ↦
-        let seen = seen_shown log d b due.own w before due.seen in
-        let name = ap (λ (y : Session). y.name) due.told in
-        let prefixed = subst (λ (n : List ℕ). PrefixedEach n due.own) (sym name) due.runs.running.runs.goes.prefixed in
+        let next = part_told (w ∷ before) s behind e done in
+        let run = next_run root t w left log d b s e x.run (λ calm. next) in
         record {
           name = x.name;
           early = x.early;
           going = x.going;
-          each = each_seen s.name due.own before prefixed seen x.each;
-          run = next_run root t w left log d b s e x.run (λ calm. absurd (not_both s.flushing due.flushing calm)) (each_seen s.name due.own before prefixed seen x.each);
+          each = run_each (shown_log w log) d b left s e run;
+          run = run;
+          past = past_level root t w left log d b s e x.name x.run (λ calm. next) (sym (seen_shown log d b done.own w left done.seen).now ∙ done.seen.now) x.past;
+          phase = inl next;
+        }
+    | inr due ↦
+        let seen = seen_shown log d b due.own w before due.seen in
+        let run = next_run root t w left log d b s e x.run (λ calm. absurd (not_both s.flushing due.flushing calm)) in
+        record {
+          name = x.name;
+          early = x.early;
+          going = x.going;
+          each = run_each (shown_log w log) d b left s e run;
+          run = run;
+          past = past_level root t w left log d b s e x.name x.run (λ calm. absurd (not_both s.flushing due.flushing calm)) (sym seen.now ∙ due.seen.now) x.past;
           phase = inr (record {
             some = due.some;
             flushing = due.flushing;
@@ -123,8 +128,16 @@ module _ (root : Super) (t : Space) (us : List Used) (left : List Write) (w : Wr
   part_idle s behind e idle x = elim x.phase [
     | inl done ↦
         let next = part_told [] s behind e done in
-        let each = each_seen s.name next.own left next.runs.running.runs.goes.prefixed next.seen x.each in
-        record { name = x.name; early = x.early; going = x.going; each = each; run = next_run root t w left log d b s e x.run (λ calm. next) each; phase = inl next }
+        let run = next_run root t w left log d b s e x.run (λ calm. next) in
+        record {
+          name = x.name;
+          early = x.early;
+          going = x.going;
+          each = run_each (shown_log w log) d b left s e run;
+          run = run;
+          past = past_level root t w left log d b s e x.name x.run (λ calm. next) (sym (seen_shown log d b done.own w left done.seen).now ∙ done.seen.now) x.past;
+          phase = inl next;
+        }
     | inr due ↦ absurd (due.some idle)
   ]
 
@@ -136,7 +149,7 @@ module _ (p : PartLaws) (root : Super) (t : Space) (us : List Used) (w : Write) 
   abbrev m : Moment
   m = with_root us x.moment
 
-  seen : IsSeen (shown_log w log) d b own []
+  seen : IsOwn t.limit (shown_log w log) d b own []
   seen = seen_own log d b x.own w x.seen
 
   flag : x.was.flushing ≡ true
@@ -227,12 +240,12 @@ module _ (p : PartLaws) (root : Super) (t : Space) (us : List Used) (w : Write) 
     stretch =
         let limit = x.limit ∙ sym ((freed_keeps x.was.keeps x.was.places place (freed_is x.was.keeps x.was.places)).1) in
         let most : most_in place (shown_log w log) ≡ most_in t log = ap (λ (n : ℕ). let y : Space = record t { limit = n } in most_in y log) (sym limit) in
-        record { limit = limit; fits = omega (arith, fits.ends, most); ends = subst (λ (n : ℕ). AllEndBy n behind) (sym most) ends; low = λ new. omega (arith, fits.low new, limit) }
+        record { limit = limit; fits = omega (arith, fits.ends, most); ends = subst (λ (n : ℕ). AllEndBy n behind) (sym most) ends; low = omega (arith, fits.low, limit) }
 
     -- as the session has it
     pub due_last : (u : Session) → AfterPiece s [] u → IsDone root t behind (shown_log w log) d b u e
     due_last u after =
-        let done : IsDone v.root place [] (shown_log w log) d b v first = record { calm = inl refl; own = own; seen = seen; runs = untold } in
+        let done : IsDone v.root place [] (shown_log w log) d b v first = record { calm = inl refl; own = own; seen = subst (λ (n : ℕ). IsOwn n (shown_log w log) d b own []) stretch.limit seen; runs = untold } in
         let told = step_done p (shown_log w log) us (image_now own) behind [] v.root root place t d b v first (own_image (shown_log w log) d b own [] seen) by refl (sym (ap (λ (y : Session). y.early) x.told) ∙ early) stretch done in
         let known = subst (λ (y : Entry). IsDone root t behind (shown_log w log) d b v y) last_entry told in
         let settled = subst (λ (f : Bool). Settles f s u) x.flushing after in

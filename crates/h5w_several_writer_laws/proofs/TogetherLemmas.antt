@@ -32,7 +32,7 @@ same_names : (f : Session → Session) → ((s : Session) → (f s).name ≡ s.n
 same_names f same [] = refl
 same_names f same (s ∷ ss) = ap (λ (n : List ℕ). n ∷ names_in (map f ss)) (same s) ∙ ap (λ (ns : List (List ℕ)). s.name ∷ ns) (same_names f same ss)
 
-all_names : (S : Sessions) (log : FileLog) (st : StandsAll S log) → names_of st.stands.entries ≡ names_in S.parts
+pub all_names : (S : Sessions) (log : FileLog) (st : StandsAll S log) → names_of st.stands.entries ≡ names_in S.parts
 all_names S log st =
     let on = st.stands in
     let was = st.was.parts in

@@ -16,7 +16,7 @@ use Rattle.h5w_header_laws.specs.Files.{commit_at}
 use Rattle.h5w_visit_laws.specs.Ranges.{Among, AllAmong, AreApart}
 use Rattle.h5w_visit_laws.proofs.RangeLemmas.{among_left, among_right, among_split}
 use Rattle.h5w_space.specs.Space.{Space}
-use Rattle.h5w_step_laws.specs.Moments.{Moment, Represents}
+use Rattle.h5w_step_laws.specs.Moments.{Moment, Represents, reading_of}
 use Rattle.h5w_step_laws.specs.Steps.{OffAll}
 use Rattle.h5w_step_laws.specs.Logs.{image_now}
 use Rattle.h5w_step_laws.specs.Plans.{Flush, Plan}
@@ -35,7 +35,7 @@ use Rattle.h5w_several_laws.proofs.BetweenLemmas.{turn_between}
 use Rattle.h5w_several_laws.proofs.TurnLemmas.{from_whole, told_file, told_holding, told_live, turn_known}
 use Rattle.h5w_several_laws.proofs.FoldLemmas.{State, across_head, across_tail, all_off, known_append, off_append, split_known, split_plans, turned}
 use Rattle.h5w_writer.specs.Loads.{first_end_of}
-use Rattle.h5w_writer.specs.Past.{most_of}
+use Rattle.h5w_writer.specs.Past.{AllAddressed, most_of}
 use Rattle.h5w_writer.specs.Sessions.{AllEndBy, Session, cutting_of}
 use Rattle.h5w_writer.specs.Stands.{Running}
 use Rattle.h5w_writer.specs.Starts.{HasFlushed}
@@ -43,39 +43,33 @@ use Rattle.h5w_writer.specs.Told.{moved_to, told_log, told_of}
 use Rattle.h5w_writer.proofs.StandLemmas.{resting}
 use Rattle.h5w_writer.specs.PartLaws.{ArePassed, IsPartFlushed, PartLaws, RunsAs, rooted}
 use Rattle.h5w_several_writer_laws.specs.Began.{IsAmple, began_end}
-use Rattle.h5w_several_writer_laws.specs.Seen.{IsSeen}
-use Rattle.h5w_several_writer_laws.specs.Standing.{IsDone, IsOwed, last_image, most_in, rested}
+use Rattle.h5w_several_writer_laws.specs.Seen.{IsOwn}
+use Rattle.h5w_several_writer_laws.specs.Standing.{HasPast, IsDone, IsOwed, last_image, most_in, rested}
+use Rattle.h5w_several_writer_laws.proofs.AddressedLemmas.{flush_addressed}
 use Rattle.h5w_several_writer_laws.proofs.PassedLemmas.{ArePassedBy, IsPassedBy, all_passed, passed_joined}
 use Rattle.h5w_several_writer_laws.proofs.RunLemmas.{HasPlanned, more_waits, none_waits, sight_image}
 use Rattle.h5w_several_writer_laws.proofs.SightLemmas.{IsSettled, seen_told}
-use Rattle.h5w_several_writer_laws.proofs.SeenLemmas.{all_flushed}
 
 -- ---- Images and bounds
 
 pub last_joined : (log : FileLog) (ws vs : List Write) → last_image log (ws ++ vs) ≡ image (last_image log ws) vs
 last_joined log ws vs = ap (image log.start) (sym (append_assoc (pieces_in log.events) ws vs)) ∙ image-append log.start (pieces_in log.events ++ ws) vs
 
-pub own_image : (log : FileLog) (d : ℕ) (b : Begun) (l : Log) (later : List Write) → IsSeen log d b l later → image_now l ≡ last_image log later
+pub own_image : {limit : ℕ} (log : FileLog) (d : ℕ) (b : Begun) (l : Log) (later : List Write) → IsOwn limit log d b l later → image_now l ≡ last_image log later
 own_image log d b l later s = ap (λ (st : List ℕ). image st (hist l.events)) s.start ∙ sym (image-append log.start s.lead (hist l.events)) ∙ ap (image log.start) s.pieces
 
 pub ends_back : (end : ℕ) (ws vs : List Write) → AllEndBy end (ws ++ vs) → AllEndBy end vs
 ends_back end [] vs all = all
 ends_back end (w ∷ ws) vs all = ends_back end ws vs all.1
 
-pub own_most : (log : FileLog) (d : ℕ) (b : Begun) (l : Log) (later : List Write) (t : Space) (s : Session) → IsSeen log d b l later → s.places.limit ≡ t.limit → IsAmple t log → most_of s l ≡ most_in t log
-own_most log d b l later t s seen limit low = elim seen.begins [
-  | inl same ↦ ap (λ (n : ℕ). max n (first_end_of l)) limit ∙ ap (max t.limit) same.1
-  | inr new ↦ both s.places.limit t.limit (first_end_of l) (began_end log) limit new.1 (low new.0)
-]
-  where
-    both : (a c x y : ℕ) → a ≡ c → x ≤ y → y ≤ c → max a x ≡ max c y
-    both a c x y same under fits = omega (arith, same, under, fits)
+pub own_most : (log : FileLog) (d : ℕ) (b : Begun) (l : Log) (later : List Write) (t : Space) (s : Session) → IsOwn t.limit log d b l later → s.places.limit ≡ t.limit → most_of s l ≡ most_in t log
+own_most log d b l later t s seen limit = ap (λ (n : ℕ). max n (first_end_of l)) limit ∙ seen.most
 
 -- what is bound by the loads of both logs is the same
-pub own_load : (log : FileLog) (d : ℕ) (b : Begun) (l : Log) (later : List Write) (c : Cutting) → IsSeen log d b l later → load c l ≡ load c (log_of d b log)
+pub own_load : {limit : ℕ} (log : FileLog) (d : ℕ) (b : Begun) (l : Log) (later : List Write) (c : Cutting) → IsOwn limit log d b l later → load c l ≡ load c (log_of d b log)
 own_load log d b l later c s =
     let rows : List ℤ → List ℤ → ℕ = λ vs ws. 1000 + touched_chunks c (length vs / c.columns) (length ws / c.columns) * (c.chunk_rows * c.chunk_columns * c.value_size + 20000) in
-    ap (λ (vs : List ℤ). rows vs (appended l)) (all_flushed log d b l later s) ∙ ap (rows (flushed (log_of d b log))) s.appended
+    ap (λ (vs : List ℤ). rows vs (appended l)) s.now ∙ ap (rows (flushed (log_of d b log))) s.appended
 
 -- at rest no flush is under way
 pub settled_runs : (name : List ℕ) (log : Log) (n : Moment) (after : List Used) → Runs name log [] n after → IsSettled log
@@ -134,7 +128,7 @@ pub record IsPlannedPart (root : Super) (t : Space) (us : List Used) (all : List
   pub some : seat.part.pending ≢ []
   pub flushing : seat.part.flushing ≡ true
   pub own : Log
-  pub seen : IsSeen log seat.number seat.begun own seat.before
+  pub seen : IsOwn t.limit log seat.number seat.begun own seat.before
   pub settled : IsSettled own
   pub limit : t.limit ≡ seat.part.places.limit
   pub moment : Moment
@@ -151,6 +145,7 @@ pub record IsIn (root : Super) (t : Space) (us : List Used) (all : List Write) (
   pub early : seat.part.early ≡ 0
   pub going : seat.part.stopped ≡ false
   pub each : PrefixedEach seat.part.name (log_of seat.number seat.begun log)
+  pub past : HasPast log seat.begun e
   pub phase : (IsDone root t all log seat.number seat.begun seat.part e × (seat.part.pending ≡ []) × Waits seat.part.name (log_of seat.number seat.begun log) all e.moment e.held) ⊎ IsPlannedPart root t us all log seat e
 
 abbrev pub AllIn : Super → Space → List Used → List Write → FileLog → List Seat → List Entry → Type 0
@@ -175,7 +170,7 @@ pub record IsWithin (t : Space) (log : FileLog) : Type 0 where
 pub within_then : (t u : Space) (log : FileLog) (ws : List Write) → Stretches t u log ws → IsWithin u log
 within_then t u log ws x = record {
   ends = omega (arith, x.fits, ap (λ (n : ℕ). max n (began_end log)) x.limit);
-  low = λ new. omega (arith, x.low new, x.limit);
+  low = omega (arith, x.low, x.limit);
 }
 
 module _ (p : PartLaws) (log : FileLog) (us : List Used) where
@@ -189,7 +184,7 @@ module _ (p : PartLaws) (log : FileLog) (us : List Used) where
       let o : Entry = entry s.name r.after r.address r.held in
       let same : e ≡ o = entry_is s.name e at [] x.own t name x.runs in
       let here : img ≡ image_now x.own = is ∙ sym (own_image log d b x.own all x.seen) in
-      let most : most_of at x.own ≡ most_in t log = own_most log d b x.own all t at x.seen refl stretch.low in
+      let most : most_of at x.own ≡ most_in t log = own_most log d b x.own all t at x.seen refl in
       let known = subst (λ (i : List ℕ). IsPassedBy i ws to u us o) here (subst (λ (y : Entry). IsPassedBy img ws to u us y) same by) in
       let told = p.passed at x.own r ws to u early known.plan known.one.knows known.one.held_is known.passed stretch.limit (omega (arith, stretch.fits, most)) (subst (λ (n : ℕ). AllEndBy n ws) (sym most) stretch.ends) in
       let next = p.told at x.own r ws to u told.0 in
@@ -197,7 +192,7 @@ module _ (p : PartLaws) (log : FileLog) (us : List Used) where
       record {
         calm = x.calm;
         own = told_log next.0 ws x.own;
-        seen = seen_told log d b x.own all x.seen (settled_runs s.name x.own r.after r.held r.runs) next.0 ws;
+        seen = subst (λ (n : ℕ). IsOwn n log d b (told_log next.0 ws x.own) (all ++ ws)) (sym stretch.limit) (seen_told log d b x.own all x.seen (settled_runs s.name x.own r.after r.held r.runs) next.0 ws);
         runs = subst (λ (y : Entry). RunsAs (rested to u s) [] (told_log next.0 ws x.own) (moved_to to y.moment) y.address y.held u) (sym same) runs;
       }
 
@@ -219,7 +214,7 @@ module _ (p : PartLaws) (log : FileLog) (us : List Used) where
         some = x.some;
         flushing = x.flushing;
         own = x.own;
-        seen = x.seen;
+        seen = subst (λ (n : ℕ). IsOwn n log seat.number seat.begun x.own seat.before) (sym stretch.limit) x.seen;
         settled = x.settled;
         limit = stretch.limit ∙ x.limit;
         moment = x.moment;
@@ -252,6 +247,7 @@ module _ (p : PartLaws) (log : FileLog) (us : List Used) where
     early = x.early;
     going = x.going;
     each = x.each;
+    past = record { raised = x.past.raised; addressed = x.past.addressed; next = x.past.next };
     phase = elim x.phase [
       | inl done ↦
           let sight : Log = log_of seat.number seat.begun log in
@@ -290,6 +286,7 @@ module _ (p : PartLaws) (log : FileLog) (us : List Used) where
     pub others : AreKnown img t e.moment.super e.moment.root (ds ++ es)
     pub apart : AreOff (ds ++ es)
     -- and in its middle
+    pub past : HasPast log b e → HasPast log b (flushed_entry e parts)
     pub between : (ws vs : List Write) → ws ++ vs ≡ n.pending → IsBetween img e (ds ++ es) parts ws vs
 
   module _ (img : List ℕ) (root : Super) (t : Space) (all : List Write) (d : ℕ) (b : Begun) (ds : List Entry) (e : Entry) (es : List Entry) (s n : Session) (is : img ≡ last_image log all) (st : State img t root us ds (e ∷ es))
@@ -439,7 +436,7 @@ module _ (p : PartLaws) (log : FileLog) (us : List Used) where
     stretch =
         let past = f.runs.running.past in
         let limit = f.raised.limit in
-        let most : most_of n (and_now (plans (length n.pending)) x.own) ≡ most_in t log = own_most log d b x.own all t n x.seen limit low in
+        let most : most_of n (and_now (plans (length n.pending)) x.own) ≡ most_in t log = own_most log d b x.own all t n x.seen limit in
         record {
           limit = limit;
           fits = omega (arith, past.fits, most);
@@ -490,6 +487,17 @@ module _ (p : PartLaws) (log : FileLog) (us : List Used) where
           plan = (refl, refl);
         }
 
+    -- each chunk that is needed then has an address, where each had one
+    past_then : HasPast log b e → HasPast log b next
+    past_then y = record {
+      raised = y.raised;
+      addressed = y.addressed;
+      next = λ bare.
+          let before : AllAddressed (reading_of q.after) = subst (λ (m : Moment). AllAddressed (reading_of m)) (sym after) (y.next bare) in
+          let then = flush_addressed at n x.own (and_now (plans (length n.pending)) x.own) from_at q f.runs.running before in
+          subst (λ (m : Moment). AllAddressed (reading_of m)) (f.runs.after ∙ ap (λ (m : Moment). flushed_to m f.parts) after) then;
+    }
+
     planned : IsPlannedPart n.root n.places us (all ++ n.pending) log (record { number = d; begun = b; before = all; part = n }) next
     planned =
         let r = x.runs.running in
@@ -497,7 +505,7 @@ module _ (p : PartLaws) (log : FileLog) (us : List Used) where
           some = λ none. let count = ap length (sym f.pieces) ∙ length_push (early_of f.parts) (commit_at (image_now x.own) q.after.place f.parts.rows f.parts.named) in omega (arith, count, ap length none);
           flushing = flushed_flag (told_of s root t) n flushes;
           own = x.own;
-          seen = x.seen;
+          seen = subst (λ (k : ℕ). IsOwn k log d b x.own all) (sym f.raised.limit) x.seen;
           settled = settled_runs s.name x.own r.after r.held r.runs;
           limit = refl;
           moment = moment;
@@ -529,6 +537,7 @@ module _ (p : PartLaws) (log : FileLog) (us : List Used) where
           flush = told_flush;
           others = others;
           apart = apart;
+          past = past_then;
           between = λ ws vs same. turn_between img e os f.parts t n.places ws vs own_one others off apart (λ u a. blocks u (subst (λ (vs : List Used). Among u vs) one.root_is a)) planned_flush missed (same ∙ sym pieces);
         }
       where

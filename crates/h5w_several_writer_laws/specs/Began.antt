@@ -1,5 +1,5 @@
 -- Over which file the log of a part begins, beside the file that the session began over or created.
-use Rattle.std.specs.Prelude.{◌≡◌, ◌⊎◌, ℕ, ◌*◌, ◌≤◌, [], length, Result, Ok, Err}
+use Rattle.std.specs.Prelude.{◌≡◌, ◌⊎◌, ℕ, ◌*◌, ◌≤◌, max, [], length, Result, Ok, Err}
 use Rattle.h5w_model.specs.Logs.{Log}
 use Rattle.h5w_model.specs.Numbers.{range}
 use Rattle.h5w_model.specs.Several.{FileLog}
@@ -19,9 +19,9 @@ end_among k (Err e) = 1024 * k
 abbrev pub began_end : FileLog → ℕ
 began_end log = end_among (length log.sets) (super_at (range log.start 0 48))
 
--- a file that the session creates may come to what no new file of so many datasets passes
+-- the file that the log began with ends within the limit, or within its bytes
 abbrev pub IsAmple : Space → FileLog → Type 0
-IsAmple t log = log.start ≡ [] → began_end log ≤ t.limit
+IsAmple t log = began_end log ≤ max t.limit (length log.start)
 
 -- The session created its file, over which the part's log begins: neither its bytes nor its end-of-file address pass
 -- what no new file does.

@@ -1,27 +1,32 @@
 -- Of which logs of a file a session of several datasets can be the session.
-use Rattle.std.specs.Prelude.{◌≡◌, ◌≢◌, ◌⊎◌, ℕ, suc, ◌+◌, ◌≤◌, max, true, false, List, [], ◌∷◌, ◌++◌, length}
+use Rattle.std.specs.Prelude.{◌≡◌, ◌≢◌, ◌⊎◌, ℕ, suc, ◌+◌, ◌≤◌, max, true, false, List, [], ◌∷◌, ◌++◌, length, take}
 use Rattle.h5w_model.specs.Images.{image}
 use Rattle.h5w_model.specs.Findings.{Used}
 use Rattle.h5w_model.specs.Logs.{Log}
 use Rattle.h5w_model.specs.Prefixed.{PrefixedEach}
 use Rattle.h5w_model.specs.Several.{Begun, FileLog, Happened, log_of, pieces_in, shown_in}
+use Rattle.h5w_model.specs.Numbers.{range}
+use Rattle.h5w_model.specs.Superblock.{super_at}
+use Rattle.h5w_model.specs.Tables.{Reading, Shows, format_limits}
 use Rattle.h5w_model.specs.declared.piece.Write.{Write}
 use Rattle.h5w_model.specs.declared.root.Super.{Super}
 use Rattle.h5w_visit_laws.specs.Ranges.{Among}
 use Rattle.h5w_space.specs.Space.{Space}
-use Rattle.h5w_step_laws.specs.Moments.{Moment, Represents}
+use Rattle.h5w_step_laws.specs.Moments.{Moment, Represents, reading_of}
 use Rattle.h5w_step_laws.specs.Logs.{image_now}
 use Rattle.h5w_step_laws.specs.Plans.{Plan}
 use Rattle.h5w_several_laws.specs.Beside.{with_root}
 use Rattle.h5w_several_laws.specs.Dues.{RunsTo}
 use Rattle.h5w_several_laws.specs.Together.{names_of}
 use Rattle.h5w_several_laws.specs.Turns.{AreKnown, AreOff, Entry}
+use Rattle.h5w_writer.specs.Loads.{end_in}
+use Rattle.h5w_writer.specs.Past.{AllAddressed}
 use Rattle.h5w_writer.specs.Sessions.{AllEndBy, Session}
 use Rattle.h5w_writer.specs.PartLaws.{ArePassed, RunsAs}
 use Rattle.h5w_writer.specs.Told.{moved_to, told_of}
 use Rattle.h5w_several_writer_laws.specs.Courses.{AreThrough, stands_of}
 use Rattle.h5w_several_writer_laws.specs.Began.{IsAmple, began_end}
-use Rattle.h5w_several_writer_laws.specs.Seen.{IsSeen}
+use Rattle.h5w_several_writer_laws.specs.Seen.{IsOwn}
 use Rattle.h5w_several_writer_laws.specs.Valid.{AreValidFrom}
 use Rattle.h5w_several_writer_laws.specs.Sessions.{Sessions, all_pending, bare, halted, stopped_all}
 
@@ -47,7 +52,7 @@ rested root t s = record s { root = root; places = t; pending = [] }
 pub record IsDone (root : Super) (t : Space) (left : List Write) (log : FileLog) (d : ℕ) (b : Begun) (s : Session) (e : Entry) : Type 0 where
   pub calm : (s.pending ≡ []) ⊎ (s.flushing ≡ false)
   pub own : Log
-  pub seen : IsSeen log d b own left
+  pub seen : IsOwn t.limit log d b own left
   pub runs : RunsAs (rested root t s) [] own e.moment e.address e.held t
 
 -- Of the pieces behind its own it is to be told then: they pass its dataset by, of which they change nothing but the superblock.
@@ -62,7 +67,7 @@ pub record IsDue (root : Super) (t : Space) (us : List Used) (log : FileLog) (d 
   pub some : s.pending ≢ []
   pub flushing : s.flushing ≡ true
   pub own : Log
-  pub seen : IsSeen log d b own before
+  pub seen : IsOwn t.limit log d b own before
   pub was : Session
   pub told : s ≡ told_of was root (bare t)
   pub limit : t.limit ≡ was.places.limit
@@ -84,7 +89,19 @@ pub record HasRun (name : List ℕ) (log : Log) (left : List Write) (e : Entry) 
 pub record IsUnbegun (log : FileLog) (left : List Write) (s : Session) : Type 0 where
   pub calm : s.flushing ≡ false
   pub some : left ≢ []
+  pub new : log.start ≡ []
   pub first : shown_in log.events + length left ≡ log.first
+
+-- the end-of-file address of the file now
+abbrev pub end_now : FileLog → ℕ
+end_now log = end_in (super_at (range (image log.start (pieces_in log.events)) 0 48))
+
+-- The end of a file that was opened has not fallen. Where the dataset had no rows at first each needed chunk has an address, whatever an image of the file shows, and
+-- once all that is left became visible.
+pub record HasPast (log : FileLog) (b : Begun) (e : Entry) : Type 0 where
+  pub raised : (log.start ≡ []) ⊎ (began_end log ≤ end_now log)
+  pub addressed : b.values ≡ [] → (p : ℕ) (r : Reading) → log.first ≤ p → p ≤ shown_in log.events → Shows format_limits (image log.start (take p (pieces_in log.events))) e.name r → AllAddressed r
+  pub next : b.values ≡ [] → AllAddressed (reading_of e.moment)
 
 -- A part of a session that goes on; it wrote no row early.
 pub record IsStandingPart (root : Super) (t : Space) (us : List Used) (left : List Write) (log : FileLog) (d : ℕ) (b : Begun) (before : List Write) (s : Session) (behind : List Write) (e : Entry) : Type 0 where
@@ -93,6 +110,7 @@ pub record IsStandingPart (root : Super) (t : Space) (us : List Used) (left : Li
   pub going : s.stopped ≡ false
   pub each : PrefixedEach s.name (log_of d b log)
   pub run : HasRun s.name (log_of d b log) left e ⊎ IsUnbegun log left s
+  pub past : HasPast log b e
   pub phase : IsDone root t left log d b s e ⊎ IsDue root t us log d b before s behind e
 
 -- all parts, from number d on, behind the pieces of those before

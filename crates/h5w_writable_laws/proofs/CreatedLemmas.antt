@@ -22,14 +22,14 @@ use Rattle.h5w_laws.proofs.ResultLemmas.{choice_from, choice_ok}
 use Rattle.h5w_visit_laws.specs.Ranges.{block_at}
 use Rattle.h5w_visit_laws.proofs.HeaderLaws.{dataset_parts, root_looks, root_parts}
 use Rattle.h5w_visit_laws.proofs.HeaderVisits.{used_of, view_whole}
-use Rattle.h5w_step_laws.specs.Moments.{reading_of}
+use Rattle.h5w_step_laws.specs.Moments.{Moment, Represents, reading_of}
 use Rattle.h5w_step_laws.proofs.MomentLemmas.{root_at}
 use Rattle.h5w_header_laws.specs.Files.{chunk_0}
-use Rattle.h5w_header_laws.specs.Spelled.{spelled_header, spelled_messages}
+use Rattle.h5w_header_laws.specs.Spelled.{IsSpellable, spelled_header, spelled_messages}
 use Rattle.h5w_header_laws.proofs.ImageLemmas.{HeaderRead, header_read}
-use Rattle.h5w_header_laws.proofs.SpelledLemmas.{spelled_read}
+use Rattle.h5w_header_laws.proofs.SpelledLemmas.{spelled_read, spelled_stands}
 use Rattle.h5w_headers.specs.Walks.{dataset_header_for, from_chunk_0_for, known_by, root_header_for, walk_for}
-use Rattle.h5w_creation_laws.specs.CreatedFiles.{CreatedFile, IsCreatable, created_moment, created_writes, described_of, header_block, header_len, header_place, index_blocks, root_block, root_len, root_messages, root_place, super_of}
+use Rattle.h5w_creation_laws.specs.CreatedFiles.{CreatedFile, IsCreatable, created_moment, created_writes, header_block, header_place, index_blocks, root_block, root_len, root_messages, root_place, super_of}
 use Rattle.h5w_creation_laws.proofs.CreatedLaws.{created_new, created_sizes, front_blocks}
 use Rattle.h5w_creation_laws.proofs.SizeLemmas.{prefix_long, root_long, root_messages_long}
 use Rattle.h5w_creation_laws.proofs.RootLemmas.{root_view-by}
@@ -48,6 +48,25 @@ alone place p ms = record { messages = found_at place true ms; ranges = record {
 taken : (img : List ℕ) (place : ℕ) (p : Prefix) (b : List ℕ) (ms : List Msg) → messages_at b ≡ Ok ms → known_by true (Ok ms) ≡ Ok ms → eval img (walks_for place p ms) ≡ Ok (alone place p ms)
     → eval img (from_chunk_0_for true place p b) ≡ Ok (alone place p ms)
 taken img place p b ms read known walked = choice_from img (known_by true (messages_at b)) (walks_for place p) (header_refusal place) ms (alone place p ms) (ap (known_by true) read ∙ known) walked
+
+-- where it is spelled as a created one
+pub spelled_taken : (img name : List ℕ) (m : Moment) → Represents img name m → IsSpellable m.dataset → At img m.place (spelled_header m.dataset) → m.place + length (spelled_header m.dataset) ≤ m.super.end
+    → (h : HeaderFields) × (eval img (dataset_header_for true m.place) ≡ Ok h)
+spelled_taken img name m file can at fits =
+    let place : ℕ = m.place in
+    let b : List ℕ = chunk_0 img place in
+    let parts = dataset_parts img format_limits m.super place m.dataset m.header file.header in
+    let r : HeaderRead img place parts.header = header_read img place parts.header parts.read in
+    let p : Prefix = r.prefix in
+    let chunk : b ≡ spelled_header m.dataset = (spelled_stands img format_limits m.super place m.dataset can at fits parts.within).chunk in
+    let ms : List Msg = placed 7 (spelled_messages m.dataset) in
+    let read : messages_at b ≡ Ok ms = ap messages_at chunk ∙ (spelled_read m.dataset can).alone in
+    let large : Prog Answer = ret (Err (read_errors.Unsupported (unsupported 1))) in
+    let go_for : Prefix → Prog Answer = λ q. cond (nat_lt 512 q.total) large (from_chunk_0_for true place q b) in (
+      alone place p ms,
+      choice_from img (prefix_at b) go_for (header_refusal place) p (alone place p ms) r.begins_so
+          (ap (λ t. eval img (cond t large (from_chunk_0_for true place p b))) (le-ltb 512 p.total r.short) ∙ taken img place p b ms read refl refl),
+    )
 
 first_range : (u v : Used) (us vs : List Used) → ◌≡◌ {A = List Used} (u ∷ us) (v ∷ vs) → u ≡ v
 first_range u v us vs e = cc
@@ -106,26 +125,9 @@ module _ (f : CreatedFile) (is : IsCreatable f) where
 
   header_taken : (h : HeaderFields) × (eval img (dataset_header_for true (header_place f)) ≡ Ok h)
   header_taken =
-      let place = header_place f in
-      let n = created_new f is in
-      let m = created_moment f in
-      let parts = dataset_parts img format_limits m.super m.place m.dataset m.header n.represents.header in
-      let r : HeaderRead img place parts.header = header_read img place parts.header parts.read in
-      let b = chunk_0 img place in
-      let p : Prefix = r.prefix in
-      let d = described_of f in
       let sizes = created_sizes f is in
-      let ranges : block_at place (header_len f) ∷ [] ≡ block_at place p.total ∷ used_of r.blocks = parts.ranges ∙ ap (λ (rs : List Range). used_of rs) r.ranges in
-      let same : header_len f ≡ p.total = ap (λ (u : Used). u.len) (first_range (block_at place (header_len f)) (block_at place p.total) [] (used_of r.blocks) ranges) in
-      let chunk : b ≡ spelled_header d = r.view ∙ ap (λ k. range img place k) (sym same ∙ sym sizes.header) ∙ header_there in
-      let ms : List Msg = placed 7 (spelled_messages d) in
-      let read : messages_at b ≡ Ok ms = ap messages_at chunk ∙ (spelled_read d sizes.spellable).alone in
-      let large : Prog Answer = ret (Err (read_errors.Unsupported (unsupported 1))) in
-      let go_for : Prefix → Prog Answer = λ q. cond (nat_lt 512 q.total) large (from_chunk_0_for true place q b) in (
-        alone place p ms,
-        choice_from img (prefix_at b) go_for (header_refusal place) p (alone place p ms) r.begins_so
-            (ap (λ t. eval img (cond t large (from_chunk_0_for true place p b))) (le-ltb 512 p.total r.short) ∙ taken img place p b ms read refl refl),
-      )
+      let long = sizes.header in
+      spelled_taken img f.name (created_moment f) (created_new f is).represents sizes.spellable header_there (omega (arith, long))
 
   pub can_be_written : CanBeWritten img (reading_of (created_moment f))
   can_be_written = record {

@@ -4,3 +4,5 @@ pub mod KeptHeaders
 pub mod KeptFiles
 pub mod FindsLemmas
 pub mod CreatedLemmas
+pub mod KnownWalks
+pub mod SeveralLemmas

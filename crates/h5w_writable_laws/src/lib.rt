@@ -3,7 +3,7 @@
 //! its statement is a definition in specs/. Nothing here runs.
 #![tactic(auto)]
 
-ghost use Rattle.h5w_writable_laws.specs.Writable.{CreatedWritable, WritableFound, WritableStays};
+ghost use Rattle.h5w_writable_laws.specs.Writable.{CreatedWritable, SeveralWritable, WritableFound, WritableStays};
 
 /// A file whose headers a writer takes is one behind each step that keeps what readers rest on: of chunk 0 of the dataset header such a step
 /// leaves all bytes but the rows, an index address and the sum, and the continuation blocks as they are.
@@ -14,6 +14,11 @@ pub fn writable_stays()
 /// A writer takes the headers of a created file.
 pub fn created_writable()
     ensures { CreatedWritable }
+{}
+
+/// And those of a created file of several datasets.
+pub fn several_writable()
+    ensures { SeveralWritable }
 {}
 
 /// Of a file whose headers a writer takes, of version 3 and without the flags of writers, all is found up to its index, and its dataset is not
