@@ -160,7 +160,7 @@ module _ (at : List ℕ) (img : List ℕ) (rows columns : ℕ) (values : List �
       let equal : ((root.flags % 2) == (root.flags / 4 % 2)) ≡ true = ap (λ c. c || ((root.flags % 2) == (root.flags / 4 % 2))) (sym other) ∙ swmr in
       elim (none_or_both root.flags (eqb-true (root.flags % 2) (root.flags / 4 % 2) equal)) [
         | inl none ↦ inl (none, continues (image img (take k ws)) file (was_clear root read other (shut_bits root.flags none) refl))
-        | inr both ↦ inr (both, goes_on file (record { root = root; read = read; version = new; flags = both }))
+        | inr both ↦ inr (both, goes_on file (record { root = root; read = read; says = record { version = new; writing = both.writing; swmr = both.swmr } }))
       ]
 
 pub stopped_continues : StoppedContinues

@@ -38,7 +38,7 @@ use Rattle.h5w_writer_open.specs.OpenParts.{IsReadAt, IsUnread, bad_block, bad_r
 use Rattle.h5w_writer_open.specs.OpenRanges.{ranges_refused, refused_index}
 use Rattle.h5w_writer_open.proofs.OverFile.{HasParts, same_answer}
 use Rattle.h5w_several_writer_laws.specs.Laws.{PartTells}
-use Rattle.h5w_several_writer_laws.specs.Sessions.{Sessions}
+use Rattle.h5w_several_writer_laws.specs.Sessions.{AreSessions, Sessions}
 use Rattle.h5w_several_writer_laws.specs.Standing.{StandsAll}
 use Rattle.h5w_several_writer_laws.specs.Together.{file_at}
 use Rattle.h5w_several_writer_laws.specs.Valid.{names_in}
@@ -55,16 +55,16 @@ use Rattle.h5w_takeover_laws.specs.Refused.{IsBegunFile, IsLeftOpen}
 use Rattle.h5w_takeover_laws.specs.Several.{NeverRefusedAll}
 use Rattle.h5w_takeover_laws.proofs.AnewLemmas.{seen_image}
 use Rattle.h5w_writer_open.proofs.LeftLemmas.{never_unordered, never_wrong, no_bad, no_range}
-use Rattle.h5w_takeover_laws.proofs.RefusedLemmas.{begun_parts, finds, found_written, unrefused_here}
+use Rattle.h5w_takeover_laws.proofs.RefusedLemmas.{begun_parts, finds, found_written, had_both, unrefused_here}
 
 -- ---- One dataset
 
 -- It is at a moment, and can be written.
-record CanTake (img name : List ℕ) : Type 0 where
-  moment : Moment
-  file : Represents img name moment
-  written : IsWritten img moment
-  some : 0 < moment.dataset.shape.cols
+pub record CanTake (img name : List ℕ) : Type 0 where
+  pub moment : Moment
+  pub file : Represents img name moment
+  pub written : IsWritten img moment
+  pub some : 0 < moment.dataset.shape.cols
 
 -- it is found as one that is written, and nothing refuses it
 pub record IsLeftFile (img name : List ℕ) : Type 0 where
@@ -77,12 +77,12 @@ pub record IsLeftFile (img name : List ℕ) : Type 0 where
 pack : (img name : List ℕ) (m : Moment) (o : Opened) → written_found (length img) name img ≡ Ok o → refused_dataset o ≡ None → Represents img name m → IsLeftFile img name
 pack img name m o is fit file = record { found = o; is = is; unrefused = fit; moment = m; file = file }
 
-left_file : (img name : List ℕ) → IsLeftOpen img → CanTake img name → IsLeftFile img name
+pub left_file : (img name : List ℕ) → IsLeftOpen img → CanTake img name → IsLeftFile img name
 left_file img name left x =
     let m = x.moment in
     let same : left.root ≡ m.super = same_answer (super_at (range img 0 48)) left.root m.super left.read (super_parts (length img) (range img 0 48) m.super x.file.super).read in
-    let version : m.super.version ≡ 3 = sym (ap (λ (s : Super). s.version) same) ∙ left.version in
-    pack img name m _ (finds img name m x.file x.written.can version (subst (λ (s : Super). HadFlags taken_over s.flags) same left.flags)) (unrefused_here img name m x.file x.written.can x.written.small x.some) x.file
+    let version : m.super.version ≡ 3 = sym (ap (λ (s : Super). s.version) same) ∙ left.says.version in
+    pack img name m _ (finds img name m x.file x.written.can version (subst (λ (s : Super). HadFlags taken_over s.flags) same (had_both left.root left.says))) (unrefused_here img name m x.file x.written.can x.written.small x.some) x.file
 
 module _ (img name : List ℕ) (x : IsLeftFile img name) (short : length img < 2 ^ 64) (root : Super) (place : ℕ) (h : HeaderFields) (super : super_at (range img 0 48) ≡ Ok root) (read : eval img (root_header_for true root.root) ≡ Ok h) (link : linked name h.messages ≡ Ok place) where
   abbrev at : (y : Super × ℕ) × (written_at (length img) name img ≡ Ok y) × (behind_at img y ≡ Ok x.found)
@@ -250,11 +250,18 @@ module _ (S : Sessions) (log : FileLog) (p : ℕ) (st : StandsAll S log) (begun 
       let some = told.some_columns in
       record { moment = f.0; file = subst (λ (i : List ℕ). Represents i s.name f.0) (seen_image log d b q) f.1; columns = omega (arith, f.4, same, some) }
 
-  can_take : (d : ℕ) (b : Begun) (s : Session) → slice_get log.sets d ≡ Some b → slice_get S.parts d ≡ Some s → IsBegunFile (file_at log log.first) s.name → CanTake (file_at log p) s.name
-  can_take d b s set part given =
+  -- it can be written at the first position
+  first_take : (d : ℕ) (b : Begun) (s : Session) → slice_get log.sets d ≡ Some b → slice_get S.parts d ≡ Some s → IsBegunFile (file_at log log.first) s.name → CanTake (file_at log log.first) s.name
+  first_take d b s set part given =
+      let was = there_at log.first (omega arith) (omega (arith, begun, reached)) d b s (standing_all.tells S log st d b s set part) in
+      let written = found_written (file_at log log.first) s.name given.found was.moment (begun_parts given.by (file_at log log.first) s.name (length (file_at log log.first)) given.found given.is) was.file given.unrefused in
+      record { moment = was.moment; file = was.file; written = written; some = was.columns }
+
+  -- so it can at the later one
+  can_take : (d : ℕ) (b : Begun) (s : Session) → slice_get log.sets d ≡ Some b → slice_get S.parts d ≡ Some s → CanTake (file_at log log.first) s.name → CanTake (file_at log p) s.name
+  can_take d b s set part was =
       let told : PartTells log d b s = standing_all.tells S log st d b s set part in
       let l : Log = log_of d b log in
-      let was = there_at log.first (omega arith) (omega (arith, begun, reached)) d b s told in
       let now = there_at p begun reached d b s told in
       let early : log.first ≤ shown_in log.events = omega (arith, begun, reached) in
       let count = ap length (seen_laws.pieces d log.events) in
@@ -262,23 +269,24 @@ module _ (S : Sessions) (log : FileLog) (p : ℕ) (st : StandsAll S log) (begun 
       let new_file : Represents (image_at l p) s.name now.moment = subst (λ (i : List ℕ). Represents i s.name now.moment) (sym (seen_image log d b p)) now.file in
       let stays = (told.held log.first p (reading_of was.moment) (reading_of now.moment) (record { begun = omega arith; reached = omega (arith, early, length_pieces log.events, count) }) (record { begun = begun; reached = omega (arith, reached, length_pieces log.events, count) }) begun
       (moment_shows (image_at l log.first) s.name was.moment old_file) (moment_shows (image_at l p) s.name now.moment new_file)).stays in
-      let first_written = found_written (file_at log log.first) s.name given.found was.moment (begun_parts given.by (file_at log log.first) s.name (length (file_at log log.first)) given.found given.is) was.file given.unrefused in
-      let by_log : IsWritten (image_at l log.first) was.moment = subst (λ (i : List ℕ). IsWritten i was.moment) (sym (seen_image log d b log.first)) first_written in
+      let by_log : IsWritten (image_at l log.first) was.moment = subst (λ (i : List ℕ). IsWritten i was.moment) (sym (seen_image log d b log.first)) was.written in
       let written = onward (image_at l log.first) (image_at l p) s.name was.moment now.moment old_file new_file stays by_log in
       record { moment = now.moment; file = now.file; written = subst (λ (i : List ℕ). IsWritten i now.moment) (seen_image log d b p) written; some = now.columns }
 
-  all_take : (bs : List Begun) (ss : List Session) → length bs ≡ length ss → AllByRecursion (IsBegunFile (file_at log log.first)) (names_in ss)
-      → ((i : ℕ) (b : Begun) (s : Session) → slice_get bs i ≡ Some b → slice_get ss i ≡ Some s → IsBegunFile (file_at log log.first) s.name → CanTake (file_at log p) s.name) → AllByRecursion (CanTake (file_at log p)) (names_in ss)
-  all_take bs [] same given each = tt
-  all_take [] (s ∷ ss) same given each = absurd (omega (arith, same))
-  all_take (b ∷ bs) (s ∷ ss) same given each = (each 0 b s refl refl given.0, all_take bs ss (omega (arith, same)) given.1 (λ i c t set part h. each (suc i) c t set part h))
+all_take : (P Q : List ℕ → Type 0) (bs : List Begun) (ss : List Session) → length bs ≡ length ss → ((i : ℕ) (b : Begun) (s : Session) → slice_get bs i ≡ Some b → slice_get ss i ≡ Some s → P s.name → Q s.name) → AllByRecursion P (names_in ss)
+    → AllByRecursion Q (names_in ss)
+all_take P Q bs [] same each given = tt
+all_take P Q [] (s ∷ ss) same each given = absurd (omega (arith, same))
+all_take P Q (b ∷ bs) (s ∷ ss) same each given = (each 0 b s refl refl given.0, all_take P Q bs ss (omega (arith, same)) (λ i c t set part h. each (suc i) c t set part h) given.1)
 
-pub never_refused_all : NeverRefusedAll
-never_refused_all S log p e st are begun reached given short left why =
+-- where each dataset can be written at the first position
+pub refuses_none : (S : Sessions) (log : FileLog) (p : ℕ) (e : OpenError) → StandsAll S log → AreSessions S → log.first ≤ p → p ≤ shown_in log.events → AllByRecursion (CanTake (file_at log log.first)) (names_in S.parts) → length log.start < 2 ^ 64
+    → IsLeftOpen (file_at log p) → IsNotTakenBy (file_at log p) (length (file_at log p)) (names_in S.parts) e → ⊥
+refuses_none S log p e st are begun reached given short left why =
     let img = file_at log p in
     let names = names_in S.parts in
     let found = all_names_laws.each S log st p begun reached in
-    let can = all_take S log p st begun reached log.sets S.parts (standing_all.sets S log st) given (can_take S log p st begun reached) in
+    let can = all_take (CanTake (file_at log log.first)) (CanTake img) log.sets S.parts (standing_all.sets S log st) (can_take S log p st begun reached) given in
     let each = all_as (CanTake img) (IsLeftFile img) names (λ name x. left_file img name left x) can in
     nothing_refuses img names found.summary found.valid left each (fits S.parts log.sets (standing_all.sets S log st) are.some (λ b s set part. fits_at b s set part)) (omega (arith, are.some, many_names S.parts)) e why
   where
@@ -292,3 +300,8 @@ never_refused_all S log p e st are begun reached given short left why =
     fits [] bs same some each = absurd (omega (arith, some))
     fits (s ∷ ss) [] same some each = absurd (omega (arith, same))
     fits (s ∷ ss) (b ∷ bs) same some each = each b s refl refl
+
+pub never_refused_all : NeverRefusedAll
+never_refused_all S log p e st are begun reached given short left why =
+    refuses_none S log p e st are begun reached
+    (all_take (IsBegunFile (file_at log log.first)) (CanTake (file_at log log.first)) log.sets S.parts (standing_all.sets S log st) (first_take S log p st begun reached) given) short left why

@@ -8,7 +8,7 @@ use Rattle.h5w_header_laws.specs.Files.{chunk_0}
 use Rattle.h5w_creation_laws.specs.CreatedFiles.{CreatedFile, created_blocks, created_writes}
 use Rattle.h5w_writer.specs.Openings.{IsOver}
 use Rattle.h5w_writer.specs.Sessions.{Session}
-use Rattle.h5w_writer.specs.Stands.{Creating, Running}
+use Rattle.h5w_writer.specs.Stands.{Creating, Running, Stands}
 use Rattle.h5w_writer.proofs.PartLemmas.{part_laws}
 use Rattle.h5w_writer.proofs.PastLemmas.{one_each}
 use Rattle.h5w_writer_open.specs.OpenAnswers.{session_over}
@@ -47,9 +47,9 @@ module _ (s t : Session) (log : Log) (size limit budget : ℕ) (low : 1024 ≤ l
       subst (λ (y : Session). IsCarried y log) (sym x.session)
       (record { moment = m; held = r.runs.held; taken = own; stands = part_laws.stands plain [] (taken_log log) refl own.own.running })
 
+-- so it runs
+pub goes_on : (s : Session) (log : Log) (st : Stands s log) → log.first ≤ length (hist log.events) → Running s st.left log
+goes_on s log st begun = elim st.phase [ inl c ↦ absurd (no_creation c.0 s st.left log c.1 begun) | inr r ↦ r ]
+
 pub carries : Carries
-carries s t log size limit budget st begun x low high =
-    elim st.phase [
-      | inl c ↦ absurd (no_creation c.0 s st.left log c.1 begun)
-      | inr r ↦ carried s t log size limit budget low high x st.left r
-    ]
+carries s t log size limit budget st begun x low high = carried s t log size limit budget low high x st.left (goes_on s log st begun)

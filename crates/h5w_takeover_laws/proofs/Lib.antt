@@ -1,5 +1,11 @@
 pub mod RefusedLemmas
+pub mod FrontLemmas
 pub mod RestartLemmas
 pub mod AnewLemmas
 pub mod AllRefusedLemmas
 pub mod CarryOneLemmas
+pub mod CarryLemmas
+pub mod CarryAllLemmas
+pub mod AlikeLemmas
+pub mod OneLemmas
+pub mod CreatedLemmas

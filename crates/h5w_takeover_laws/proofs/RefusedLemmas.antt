@@ -53,6 +53,7 @@ use Rattle.h5w_reopening_laws.proofs.SinceLemmas.{IsAt, IsWritten, file_at, onwa
 use Rattle.h5w_several_open.proofs.BeginningLemmas.{was_opened}
 use Rattle.h5w_reopening_laws.proofs.StopLemmas.{opened_is_writable, reopens}
 use Rattle.h5w_reopening_laws.proofs.UnrefusedLemmas.{dataset_taken}
+use Rattle.h5w_front_laws.specs.Fronts.{SaysWritten}
 use Rattle.h5w_takeover_laws.specs.Refused.{AnswersSession, BegunReopens, IsBegunFile, IsLeftOpen, NeverRefused, TakenIsBegun}
 
 -- ---- What was found
@@ -242,10 +243,14 @@ module _ (img name : List ℕ) (o : Opened) (m : Moment) (is : written_found (le
 
 -- ---- At each position
 
-not_opened : (s : Session) (log : Log) → IsNew log → HasOpened s log → ⊥
+pub not_opened : (s : Session) (log : Log) → IsNew log → HasOpened s log → ⊥
 not_opened s log new o =
     let first : log.first ≡ length (created_blocks new.file) = ap (λ (l : Log). l.first) new.log_is in
     omega (arith, first, o.first, some_blocks new.file)
+
+-- both flags of a writer
+pub had_both : (root : Super) → SaysWritten root → HadFlags taken_over root.flags
+had_both root says = record { writing = says.writing; swmr = says.swmr }
 
 module _ (s : Session) (log : Log) (p : ℕ) (st : Stands s log) (at : IsPosition log p) (given : HasOpened s log → IsBegunFile log.start s.name) where
   abbrev here : IsAt s log p
@@ -273,14 +278,14 @@ module _ (s : Session) (log : Log) (p : ℕ) (st : Stands s log) (at : IsPositio
       let same : left.root ≡ m.super = same_answer (super_at (range img 0 48)) left.root m.super left.read (super_parts (length img) (range img 0 48) m.super here.file.super).read in
       let some : 0 < m.dataset.shape.cols = let known = standing_laws.columns s log st in let more = standing_laws.some_columns s log st in omega (arith, here.columns, known, more) in
       let fits : length img < 2 ^ 64 = let f = standing_laws.fits s log p st at in let l = standing_laws.limited s log st in omega (arith, f, l, short) in
-      let is = finds img s.name m here.file written.can (sym (ap (λ (t : Super). t.version) same) ∙ left.version) (subst (λ (t : Super). HadFlags taken_over t.flags) same left.flags) in
+      let is = finds img s.name m here.file written.can (sym (ap (λ (t : Super). t.version) same) ∙ left.says.version) (subst (λ (t : Super). HadFlags taken_over t.flags) same (had_both left.root left.says)) in
       nothing_refuses img s.name _ m is (unrefused_here img s.name m here.file written.can written.small some) here.file fits e
 
 pub never_refused : NeverRefused
 never_refused s log p e st at given short left why = refuses_none s log p st at given e short left why
 
 -- an answer that is an error is no refusal
-none_of : (o : Option OpenError) (P : OpenError → Type 0) → IfRefusal o P → ((e : OpenError) → P e → ⊥) → o ≡ None
+pub none_of : (o : Option OpenError) (P : OpenError → Type 0) → IfRefusal o P → ((e : OpenError) → P e → ⊥) → o ≡ None
 none_of None P h never = refl
 none_of (Some e) P h never = absurd (never e h)
 

@@ -1,3 +1,6 @@
 pub mod Refused
+pub mod Fronts
 pub mod Restarts
 pub mod Several
+pub mod One
+pub mod Created

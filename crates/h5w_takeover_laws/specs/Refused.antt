@@ -1,10 +1,8 @@
 -- A takeover is never refused on the image of a session, wherever that stopped.
 use Rattle.std.specs.Prelude.{◌≡◌, ℕ, ◌^◌, ◌<◌, List, length, None, Result, IfErr, Ok}
 use Rattle.h5w_model.specs.Logs.{Log, first_rows, flushed_at}
-use Rattle.h5w_model.specs.Numbers.{range}
 use Rattle.h5w_model.specs.Prefixed.{IsPosition, image_at}
-use Rattle.h5w_model.specs.Superblock.{super_at}
-use Rattle.h5w_model.specs.declared.root.Super.{Super}
+pub use Rattle.h5w_front_laws.specs.Fronts.{IsLeftOpen}
 use Rattle.h5w_opening.specs.Errors.{refusal_of}
 use Rattle.h5w_opening.specs.Openings.{Opened, refused_dataset}
 use Rattle.h5w_opening.specs.declared.error.OpenError.{OpenError}
@@ -12,7 +10,7 @@ use Rattle.h5w_reopening_laws.specs.Reopens.{IsCleared, Reopens}
 use Rattle.h5w_writer.specs.Past.{HasOpened}
 use Rattle.h5w_writer.specs.Sessions.{Session}
 use Rattle.h5w_writer.specs.Stands.{Stands}
-use Rattle.h5w_several_open.specs.Beginnings.{HadFlags, IsBeginAnswer, IsBegunOver, IsNotBegun, found_by, taken_over}
+use Rattle.h5w_several_open.specs.Beginnings.{IsBeginAnswer, IsBegunOver, IsNotBegun, found_by, taken_over}
 use Rattle.h5w_several_open.specs.declared.beginning.Beginning.{Beginning}
 
 -- all up to the index is found in a file of these bytes, which is opened or taken over, and its dataset is not refused
@@ -21,13 +19,6 @@ pub record IsBegunFile (img name : List ℕ) : Type 0 where
   pub found : Opened
   pub is : found_by by (length img) name img ≡ Ok found
   pub unrefused : refused_dataset found ≡ None
-
--- the file says that it is written: its superblock is of version 3, with both flags of a writer
-pub record IsLeftOpen (img : List ℕ) : Type 0 where
-  pub root : Super
-  pub read : super_at (range img 0 48) ≡ Ok root
-  pub version : root.version ≡ 3
-  pub flags : HadFlags taken_over root.flags
 
 -- ---- Laws
 

@@ -1,11 +1,13 @@
 -- Another writer takes over a file of several datasets, wherever its session stopped.
-use Rattle.std.specs.Prelude.{◌^◌, ◌<◌, ◌≤◌, ℕ, suc, List, [], ◌∷◌, length}
+use Rattle.std.specs.Prelude.{◌≡◌, Some, slice_get, ◌^◌, ◌<◌, ◌≤◌, ℕ, suc, List, [], ◌∷◌, length}
 use Rattle.std.specs.List.{AllByRecursion}
+use Rattle.h5w_model.specs.Images.{image}
 use Rattle.h5w_model.specs.Logs.{first_rows, flushed_at}
-use Rattle.h5w_model.specs.Several.{Begun, FileLog, log_of, shown_in}
+use Rattle.h5w_model.specs.Several.{Begun, FileLog, log_of, pieces_in, shown_in, takes_over}
 use Rattle.h5w_opening.specs.declared.error.OpenError.{OpenError}
+use Rattle.h5w_writer.specs.Sessions.{Session, chunk_limit, cutting_of}
 use Rattle.h5w_several_writer_laws.specs.Sessions.{AreSessions, Sessions}
-use Rattle.h5w_several_writer_laws.specs.Standing.{StandsAll}
+use Rattle.h5w_several_writer_laws.specs.Standing.{StandsAll, and_then}
 use Rattle.h5w_several_writer_laws.specs.Together.{file_at}
 use Rattle.h5w_several_writer_laws.specs.Valid.{names_in}
 use Rattle.h5w_several_open.specs.Stands.{opened_file}
@@ -38,3 +40,25 @@ abbrev pub TakenAnew : Type 0
 TakenAnew = (S T : Sessions) (log : FileLog) (p limit budget : ℕ) → StandsAll S log → log.first ≤ p → p ≤ shown_in log.events
     → IsTakenAll (file_at log p) (length (file_at log p)) (names_in S.parts) limit budget T → HasTakenAll (names_in S.parts) limit budget T → 1024 ≤ limit → limit ≤ 2 ^ 40
     → StandsAll T (log_from p log)
+
+-- The session stands for the log of before with the takeover, and begins at an end of the file that is no more than that of the session before.
+pub record CarriesOn (S T : Sessions) (log : FileLog) : Type 0 where
+  pub stands : StandsAll T (and_then takes_over log)
+  pub end : T.places.end ≤ S.places.end
+
+-- The session that takes the file over where it is now, by the same names and with no smaller limit, goes on with the log.
+abbrev pub CarriesAll : Type 0
+CarriesAll = (S T : Sessions) (log : FileLog) (limit budget : ℕ) → StandsAll S log → 1 ≤ length S.parts → log.first ≤ shown_in log.events → S.places.limit ≤ limit
+    → IsTakenAll (image log.start (pieces_in log.events)) (length (image log.start (pieces_in log.events))) (names_in S.parts) limit budget T → 1024 ≤ limit → limit ≤ 2 ^ 40
+    → CarriesOn S T log
+
+-- a part with the same dataset, but for its rows
+pub record IsAlike (s u : Session) : Type 0 where
+  pub cutting : cutting_of u ≡ cutting_of s
+  pub int_type : u.dataset.int_type ≡ s.dataset.int_type
+  pub chunk_limit : chunk_limit u ≡ chunk_limit s
+
+-- a dataset of a file that was taken over is the one that it was
+abbrev pub StaysAlike : Type 0
+StaysAlike = (S T : Sessions) (log : FileLog) → StandsAll S log → StandsAll T (and_then takes_over log) → log.first ≤ shown_in log.events → (d : ℕ) (b : Begun) (s u : Session) → slice_get log.sets d ≡ Some b → slice_get S.parts d ≡ Some s
+    → slice_get T.parts d ≡ Some u → u.name ≡ s.name → IsAlike s u

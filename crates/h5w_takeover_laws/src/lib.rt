@@ -2,8 +2,13 @@
 //! parameters; its statement is a definition in specs/. Nothing here runs.
 #![tactic(auto)]
 
+mod fronts;
 mod one;
 mod several;
 
-pub use one::{answers_session, begun_reopens, carries, never_refused, taken_is_begun, taken_runs};
-pub use several::{never_refused_all, taken_anew};
+pub use fronts::taken_writes;
+pub use one::{
+    answers_one, answers_session, begun_reopens, carries, carries_one, created_told, never_refused,
+    taken_is_begun, taken_runs,
+};
+pub use several::{answers_all, carries_all, never_refused_all, stays_alike, taken_anew};

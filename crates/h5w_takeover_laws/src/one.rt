@@ -1,5 +1,6 @@
 //! A takeover of a file with one dataset.
 
+ghost use Rattle.h5w_takeover_laws.specs.One.{AnswersOne, CarriesOne, CreatedTold};
 ghost use Rattle.h5w_takeover_laws.specs.Refused.{AnswersSession, BegunReopens, NeverRefused, TakenIsBegun};
 ghost use Rattle.h5w_takeover_laws.specs.Restarts.{Carries, TakenRuns};
 
@@ -33,4 +34,20 @@ pub fn taken_runs()
 /// So it is of the session that takes over the file of another one, wherever that stopped since a reader found a file.
 pub fn carries()
     ensures { Carries }
+{}
+
+/// A session tells of the file that it created how that began and grew, once a reader finds it.
+pub fn created_told()
+    ensures { CreatedTold }
+{}
+
+/// The session of several datasets that takes such a file over by its one name stands for the log of before, with the takeover: what
+/// was not flushed is gone, and what readers rest on stays.
+pub fn carries_one()
+    ensures { CarriesOne }
+{}
+
+/// Nothing refuses that takeover, where the image has both flags of a writer.
+pub fn answers_one()
+    ensures { AnswersOne }
 {}
