@@ -1,0 +1,2 @@
+pub mod AcrossLemmas
+pub mod SeatLemmas
