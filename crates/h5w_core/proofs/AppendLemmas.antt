@@ -309,7 +309,7 @@ appended_steps w t vs rows app =
 ok_err : (e : AppendError) (r : Result ℕ AppendError) (rows : ℕ) → r ≡ Ok rows → r ≡ Err e → ⊥
 ok_err e r rows ok err = cc
 
-not_refused : (refusal : Option AppendError) (r : Result ℕ AppendError) (rows : ℕ) → ((e : AppendError) → refusal ≡ Some e → r ≡ Err e) → r ≡ Ok rows → refusal ≡ None
+pub not_refused : (refusal : Option AppendError) (r : Result ℕ AppendError) (rows : ℕ) → ((e : AppendError) → refusal ≡ Some e → r ≡ Err e) → r ≡ Ok rows → refusal ≡ None
 not_refused None r rows refused ok = refl
 not_refused (Some e) r rows refused ok = absurd (ok_err e r rows ok (refused e refl))
 

@@ -48,6 +48,7 @@ begins o s m n by c budget stands empty same pieces end =
       is = refl;
       none = refl;
       name = ap (λ (x : Session). x.name) is;
+      root = ap (λ (x : Session). x.root) is;
       history = history;
       bytes = some_is n.bytes m.bytes same.bytes ∙ ap (λ (v : MemView). v.bytes) empty;
       dataset = ap (λ (x : Session). x.dataset) is;
@@ -82,6 +83,7 @@ piece_more o count s t m n piece pieces pending start shown wrote stands room =
       is = ap (and_now (shows piece)) start.is;
       none = start.none;
       name = after.name ∙ start.name;
+      root = ap (λ (x : Session). x.root) is ∙ start.root;
       history = history ∙ ap (λ (ws : List Write). ws ++ piece ∷ []) start.history;
       bytes = some_is n.bytes (image m.bytes (piece ∷ [])) wrote.bytes ∙ ap (λ (b : List ℕ). image b (piece ∷ [])) start.bytes ∙ sym (image-push [] (hist log.events) piece);
       dataset = after.dataset ∙ start.dataset;
@@ -114,7 +116,7 @@ shows_more o count s t m n few start shown room = pieces_more o count s t m n s.
 
 -- ---- All are visible
 
-all_shown : (o : Options) (s : Session) (m : MemView) → Creates o (total o) s m → s.pending ≡ []
+pub all_shown : (o : Options) (s : Session) (m : MemView) → Creates o (total o) s m → s.pending ≡ []
 all_shown o s m start = nil_from_length s.pending (omega (arith, some_left o (total o) s m start))
 
 pub all_created : (o : Options) (s : Session) (m : MemView) → Creates o (total o) s m → m.history ≡ created_writes (new_file o)

@@ -420,11 +420,15 @@ pub record IsAnswered (s t : Session) (r : Result ℕ FlushError) (pieces : ℕ)
   pub bound : (log : Log) → Stands s log → pieces ≤ load (cutting_of s) log
   pub stands : (log : Log) → Stands s log → Stands t (and_now (plans pieces) log)
 
+-- it was ready for that
+pub ready : (s t : Session) (r : Result ℕ FlushError) (pieces : ℕ) → IsAnswered s t r pieces → (s.stopped ≡ false) × (s.pending ≡ [])
+ready s t r pieces by = idle_none s.stopped s.pending (no_refusal (flush_refusal s) r by.refused (λ e refusal answer. ok_err e r pieces by.ok answer))
+
 pub flush_done : (s t : Session) (m k : MemView) (attempts pieces : ℕ) (readers : List (Option ReaderCore)) (w : WorldView) (r : Result ℕ FlushError) → world_of s m attempts readers ≡ w → Same (steady m) (steady k)
     → IsAnswered s t r pieces → Steps w events.Flush (replies.Flushing pieces) (world_of t k attempts readers)
 flush_done s t m k attempts pieces readers w r view same by =
     let old = world_of s m attempts readers in
-    let free = idle_none s.stopped s.pending (no_refusal (flush_refusal s) r by.refused (λ e refusal answer. ok_err e r pieces by.ok answer)) in
+    let free = ready s t r pieces by in
     let flush : IsFlush s t pieces = record {
       going = free.0;
       idle = free.1;

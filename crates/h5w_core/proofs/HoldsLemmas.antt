@@ -1,5 +1,5 @@
 -- A session's log is one that readers can poll.
-use Rattle.std.proofs.Common.{◌≡◌, ◌≤◌, ◌+◌, ◌/◌, ℕ, List, [], ◌∷◌, ap, refl, sym, arith}
+use Rattle.std.proofs.Common.{◌≡◌, ◌≤◌, ◌+◌, ◌/◌, ℕ, List, [], ◌∷◌, ap, refl, arith}
 use Rattle.h5w_model.specs.Datasets.{root_header, root_view}
 use Rattle.h5w_model.specs.Prefixed.{image_at, root_address}
 use Rattle.h5w_model.specs.Programs.{Visit, visits}

@@ -12,3 +12,4 @@ pub mod PollLemmas
 pub mod HoldLemmas
 pub mod ReaderLemmas
 pub mod NameLemmas
+pub mod WritingLemmas

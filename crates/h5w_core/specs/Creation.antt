@@ -3,7 +3,7 @@ use Rattle.std.specs.Prelude.{◌≡◌, ℕ, false, [], ◌++◌, length}
 use Rattle.h5w_model.specs.Images.{image}
 use Rattle.h5w_model.specs.Logs.{Log, appended, hist, spent}
 use Rattle.h5w_image.specs.Memory.{MemView}
-use Rattle.h5w_creation_laws.specs.CreatedFiles.{created_writes, described_of}
+use Rattle.h5w_creation_laws.specs.CreatedFiles.{created_writes, described_of, super_of}
 use Rattle.h5w_writer.specs.Creations.{log_of}
 use Rattle.h5w_form.specs.NewFiles.{new_file}
 use Rattle.h5w_writer.specs.Past.{IsNew}
@@ -21,6 +21,7 @@ pub record Creates (options : Options) (count : ℕ) (s : Session) (m : MemView)
   pub is : log ≡ log_of (new_file options) log.events
   pub none : appended log ≡ []
   pub name : s.name ≡ options.name
+  pub root : s.root ≡ super_of (new_file options)
   pub history : m.history ≡ hist log.events
   pub bytes : m.bytes ≡ image [] (hist log.events)
   pub dataset : s.dataset ≡ described_of (new_file options)

@@ -7,3 +7,4 @@ pub mod Readers
 pub mod Creation
 pub mod Worlds
 pub mod Runs
+pub mod Parts

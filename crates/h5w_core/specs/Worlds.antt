@@ -1,6 +1,6 @@
 -- A world of one writer, one image and some readers: what its value is, of which logs it can be the world, and of which
 -- states of a script.
-use Rattle.std.specs.Prelude.{◌≡◌, ℕ, ◌*◌, ◌≤◌, ℤ, true, false, List, [], ◌∷◌, ◌++◌, length, replicate, ◌==◌, if◌then◌else◌, Option, None, option_map}
+use Rattle.std.specs.Prelude.{◌≡◌, ℕ, ◌*◌, ◌≤◌, ◌^◌, ℤ, Bool, true, false, List, [], ◌∷◌, ◌++◌, length, replicate, ◌==◌, if◌then◌else◌, Option, None, option_map}
 use Rattle.h5w_model.specs.Images.{image}
 use Rattle.h5w_model.specs.Logs.{Log, appends, plans, shows, hist, appended, flushed_rows, spent, and_now}
 use Rattle.h5w_model.specs.Tables.{format_limits, limit_of}
@@ -31,6 +31,8 @@ use Rattle.h5w_writer.specs.Flushes.{SameBut}
 use Rattle.h5w_writer.specs.Sessions.{Session, chunk_limit, cutting_of}
 use Rattle.h5w_writer.specs.Past.{IsNew}
 use Rattle.h5w_writer.specs.Stands.{Stands}
+use Rattle.h5w_front_laws.specs.Fronts.{IsLeftOpen}
+use Rattle.h5w_front_laws.specs.Laws.{KeepsWritten}
 
 -- The session, the bytes of its image, the pieces that became visible, the oldest first, the most attempts of a
 -- reader's call, and the readers that were opened, by number.
@@ -122,6 +124,16 @@ pub record HoldsTogether (s : Session) (m : MemView) (attempts : ℕ) (readers :
   pub places : length readers ≡ 17
   pub script : ScriptState
   pub fits : HaveOneLog (record { session = s; bytes = m.bytes; journal = m.history; attempts = attempts; readers = readers }) script
+
+-- What another writer needs that takes the file over. The image says that it is written, and so do the session's superblock and the pieces that
+-- are pending. The session has this limit and this budget, which is one that a session may have, and was stopped or not.
+pub record IsWriting (limit budget : ℕ) (stopped : Bool) (s : Session) (m : MemView) : Type 0 where
+  pub front : IsLeftOpen m.bytes
+  pub keeps : KeepsWritten s
+  pub limited : limit ≡ s.places.limit
+  pub budgeted : budget ≡ s.budget
+  pub allowed : (1024 ≤ budget) × (budget ≤ 2 ^ 30)
+  pub stops : stopped ≡ s.stopped
 
 -- what a log is after an event that was given a reply: a refused one adds nothing
 abbrev pub logged : WorldView → Event → Reply → Log → Log

@@ -3,6 +3,7 @@
 #![tactic(auto)]
 
 mod laws;
+mod parts;
 pub mod readers;
 mod world;
 
@@ -10,4 +11,5 @@ pub use h5w_image::Journal;
 pub use h5w_model::{Event, OutOfMemory, Reply};
 pub use h5w_options::Options;
 pub use laws::runs_lawfully;
+pub use parts::WorldParts;
 pub use world::World;

@@ -16,16 +16,19 @@ ghost use Rattle.h5w_writer.specs.Sessions.{AfterPiece, rows_of as session_rows}
 ghost use Rattle.h5w_writer.specs.Stands.{Stands};
 ghost use Rattle.h5w_core.specs.Readers.{IsCalling, MayRead, ended, reader_at};
 ghost use Rattle.h5w_steady.specs.Steady.{steady};
+ghost use Rattle.h5w_front_laws.specs.Fronts.{IsLeftOpen};
 ghost use Rattle.h5w_core.specs.Creation.{Creates};
+ghost use Rattle.h5w_core.specs.Parts.{IsApart};
 ghost use Rattle.h5w_core.specs.Worlds.{AreRowsBy, HaveOneLog, HoldsMore, IsHeard, IsKept, IsLeft, IsNewWorld, MayWantMemory, StandsFor, Steps, full_reply, logged, nobody, rules_for, rules_of};
 
+use crate::parts::WorldParts;
 use crate::readers;
 use h5w_image::Journal;
 use h5w_model::{Event, OutOfMemory, Reply};
 use h5w_options::Options;
 use h5w_reader::ReaderCore;
-use h5w_writer::{AppendError, FlushError, Full, WriterCore};
 use h5w_steady::SteadyImage;
+use h5w_writer::{AppendError, FlushError, Full, WriterCore};
 use std::alloc::Global;
 use std::marker::Model;
 
@@ -39,13 +42,18 @@ pub struct World {
     attempts: u32,
     /// A place for each reader, by its number.
     readers: Vec<Option<ReaderCore>>,
+    /// The most bytes of the file, and the most that may wait unwritten after an append.
+    limit: u64,
+    budget: u64,
+    /// Whether the writer was stopped.
+    stopped: bool,
 }
 
 impl Model for World {
     ghost use Rattle.std.specs.Coded.{codes};
     ghost use Rattle.h5w_writer.specs.Codes.{tree_code};
     ghost use Rattle.h5w_reader.specs.contracts.reader.ReaderCore as core;
-    ghost use Rattle.h5w_core.specs.Worlds.{HoldsTogether, WorldView};
+    ghost use Rattle.h5w_core.specs.Worlds.{HoldsTogether, IsWriting, WorldView};
 
     ghost Value = { WorldView };
 
@@ -53,7 +61,7 @@ impl Model for World {
 
     ghost view = { λ w. record { session = w.session; bytes = w.image.bytes; journal = w.image.history; attempts = w.attempts; readers = w.readers.items } };
 
-    ghost invariant = { λ w. HoldsTogether w.session w.image w.attempts w.readers.items };
+    ghost invariant = { λ w. HoldsTogether w.session w.image w.attempts w.readers.items × IsWriting w.limit w.budget w.stopped w.session w.image };
 }
 
 /// The oldest pending piece becomes visible, where there is one. Answers how many pieces became visible.
@@ -124,6 +132,9 @@ impl World {
             image,
             attempts,
             readers,
+            limit: options.limit,
+            budget: options.budget,
+            stopped: false,
         })
     }
 
@@ -238,6 +249,7 @@ impl World {
         ensures named { self.new.session.name ≡ self.old.session.name }
     {
         self.session.stop();
+        self.stopped = true;
         Reply::Stopped
     }
 
@@ -320,5 +332,39 @@ impl World {
         ensures { result ≡ session_rows self.now.session }
     {
         self.session.rows()
+    }
+
+    /// Whether the writer was stopped.
+    pub fn is_stopped(&self) -> bool
+        ensures { result ≡ self.now.session.stopped }
+    {
+        self.stopped
+    }
+
+    /// Takes the world apart, as another writer does that goes on with its file. The image says that it is written, also in
+    /// the middle of a flush, and has room for the pieces that are pending and one more.
+    pub fn into_parts(self) -> WorldParts
+        ensures parts { IsApart self result }
+        ensures room { HasRoomFor result.session (steady result.image) }
+        ensures front { IsLeftOpen result.image.bytes }
+        ensures some { (s : ScriptState) × HaveOneLog self s }
+    {
+        let World {
+            session,
+            image,
+            attempts,
+            readers,
+            limit,
+            budget,
+            ..
+        } = self;
+        WorldParts {
+            session,
+            image,
+            attempts,
+            readers,
+            limit,
+            budget,
+        }
     }
 }

@@ -1,5 +1,5 @@
 -- Values are appended to one of the datasets.
-use Rattle.std.proofs.Common.{◌≡◌, ◌≢◌, ◌⊎◌, ℕ, zero, suc, ◌+◌, ◌*◌, ◌/◌, ◌<◌, ◌≤◌, cond, Bool, true, false, List, [], ◌∷◌, ◌++◌, ℤ, length, Option, Some, None, Result, Ok, Err, refl, sym, ap, subst, ◌∙◌, inl, inr, arith}
+use Rattle.std.proofs.Common.{◌≡◌, ◌≢◌, ◌⊎◌, ℕ, zero, suc, ◌+◌, ◌/◌, ◌<◌, ◌≤◌, cond, Bool, true, false, List, [], ◌∷◌, ℤ, length, Option, Some, None, Result, Ok, Err, refl, sym, ap, subst, ◌∙◌, inl, inr, arith}
 use Rattle.std.specs.Prelude.{nat_lt, slice_get, slice_set}
 use Rattle.std.specs.Result.{IfErr, IfOk, OnErr, OnOk}
 use Rattle.std.proofs.lemmas.Bool.{ltb-false, ltb-true}
@@ -30,11 +30,11 @@ use Rattle.h5w_several_world_laws.proofs.RefusalLemmas.{all_refused_steps}
 use Rattle.h5w_several_world_laws.proofs.StepLemmas.{part_there}
 use Rattle.h5w_core.proofs.AppendLemmas.{IsOwn}
 use Rattle.h5w_several_core.specs.Places.{place_at}
-use Rattle.h5w_several_core.specs.Worlds.{AreAllMade, AreRowsIn, FileSteps, HaveFileLog, HoldsAll, IsPast, MayWantMemoryIn, SeveralView, logged_in, pollings_of, rules_of}
+use Rattle.h5w_several_core.specs.Worlds.{AreRowsIn, FileSteps, HoldsAll, IsPast, MayWantMemoryIn, SeveralView, logged_in, pollings_of, rules_of}
 use Rattle.h5w_several_core.specs.declared.events.FileEvent.TheVariants as events
 use Rattle.h5w_several_core.specs.declared.places.Place.{Place}
 use Rattle.h5w_several_core.proofs.MachineLemmas.{StepsOn, file_steps, idle_steps, same_hold, same_logs, steps_hold, unchanged, world_of}
-use Rattle.h5w_several_core.proofs.MadeLemmas.{made_added}
+use Rattle.h5w_several_core.proofs.FrontLemmas.{front_appended}
 use Rattle.h5w_several_core.proofs.RuleLemmas.{count_rules, polls_added, polls_in, rows_here, rules_by}
 
 -- ---- Why a session refuses
@@ -177,13 +177,16 @@ module _ (S T : Sessions) (m n : MemView) (attempts : ℕ) (ps : List Place) (d 
 
     pub append_done : FileSteps old (events.Append d vs) (says (replies.Appended rows 0)) new
     append_done =
-        file_steps S T m n attempts ps ps (events.Append d vs) (says (replies.Appended rows 0)) added_polls (λ log stood. same_logs S T m n attempts ps ps log (and_then (appends_to d vs) log) same (tells.stands log) refl refl stood)
+        file_steps S T m n attempts ps ps (events.Append d vs) (says (replies.Appended rows 0)) added_polls (λ log stood. same_logs S T m n attempts ps ps log (and_then (appends_to d vs) log) same (tells.stands log) refl refl refl stood)
         (λ F h file used. added_on F h used)
 
     pub append_hold : HoldsAll S m attempts ps → HasRoomForAll T (steady n) → HoldsAll T n attempts ps
     append_hold h room =
         steps_hold S T m n attempts ps ps (events.Append d vs) (says (replies.Appended rows 0)) h inside append_done room (ap (λ (U : Sessions). U.places.limit) x.session)
-        (subst AreAllMade (sym parts_are) (made_added S.parts d part vs x.is h.made)) h.count
+        (front_appended S T m.bytes n.bytes (some_is n.bytes m.bytes same.bytes) h.front d vs x) h.count
+
+    pub append_stops : T.stopped ≡ S.stopped
+    append_stops = ap (λ (U : Sessions). U.stopped) x.session
 
     -- no more bytes wait than the budget has
     pub append_within : IsPast old d vs → ⊥
@@ -330,6 +333,10 @@ module _ (S : Sessions) (m : MemView) (attempts : ℕ) (ps : List Place) (w : Se
     pub all_hold : (r : Result ℕ AppendError) → AppendTells S T d vs r → HoldsAll S m attempts ps → OnOk r (HasRoomForAll T (steady n)) → HoldsAll T n attempts ps
     all_hold (Ok rows) tells h room = append_hold S T m n attempts ps d vs rows_are_in same rows tells h room
     all_hold (Err e) tells h room = same_hold S T m n attempts ps h same tells.kept
+
+    pub all_stops : (r : Result ℕ AppendError) → AppendTells S T d vs r → T.stopped ≡ S.stopped
+    all_stops (Ok rows) tells = append_stops S T m n attempts ps d vs rows_are_in same rows tells
+    all_stops (Err e) tells = ap (λ (U : Sessions). U.stopped) tells.kept
 
     pub all_kept : T ≡ S → then ≡ w
     all_kept kept = unchanged S T m n attempts ps same kept ∙ view

@@ -1,13 +1,11 @@
 -- A machine whose session just created its file fits a script's first state.
-use Rattle.std.proofs.Common.{◌≡◌, ◌≢◌, ◌⊎◌, ℕ, zero, suc, ◌+◌, ◌-◌, ◌*◌, ◌^◌, ◌<◌, ◌≤◌, Bool, true, false, List, [], ◌∷◌, ◌++◌, ℤ, length, map, replicate, get_or, Option, Some, None, refl, sym, ap, subst, ◌∙◌, arith, append-nil, append_assoc, length-append}
+use Rattle.std.proofs.Common.{◌≡◌, ℕ, zero, suc, ◌+◌, ◌^◌, ◌<◌, ◌≤◌, true, false, List, [], ◌∷◌, ◌++◌, ℤ, length, map, replicate, get_or, Option, Some, None, refl, sym, ap, subst, ◌∙◌, arith, append-nil, append_assoc}
 use Rattle.std.specs.Prelude.{nat_lt, slice_get}
 use Rattle.std.specs.List.{AllByRecursion}
-use Rattle.std.proofs.lemmas.List.{length-map}
 use Rattle.std.proofs.lemmas.Option.{slice_get-get_or, slice_get_within}
 use Rattle.h5w_model.specs.Images.{AllSized, image}
 use Rattle.h5w_model.specs.Lawful.{Rules, ScriptState, at_first, reader_in}
-use Rattle.h5w_model.specs.Logs.{Log, appended, appended_in, flushed_rows, hist}
-use Rattle.h5w_model.specs.Numbers.{undefined}
+use Rattle.h5w_model.specs.Logs.{Log, appended, appended_in, flushed_rows}
 use Rattle.h5w_model.specs.Several.{Begun, FileLog, Happened, log_of, pieces_in, seen_by, shows_all}
 use Rattle.h5w_model.specs.Tables.{format_limits}
 use Rattle.h5w_model.specs.Unfinished.{Reader}
@@ -26,21 +24,22 @@ use Rattle.h5w_options.specs.declared.options.Options.{Options}
 use Rattle.h5w_script_laws.specs.Polling.{MayPoll, Polling, now}
 use Rattle.h5w_writer.specs.Creations.{places_to}
 use Rattle.h5w_writer.specs.Sessions.{AllEndBy, Session}
-use Rattle.h5w_writer.proofs.CreatingLemmas.{new_made, new_roomy, writes_end}
+use Rattle.h5w_writer.proofs.CreatingLemmas.{writes_end}
 use Rattle.h5w_writer.proofs.PastLemmas.{ends_later}
 use Rattle.h5w_writer_laws.proofs.PieceLemmas.{some_is}
 use Rattle.h5w_several_creation.specs.Forms.{AreNames, all_by, each_by}
 use Rattle.h5w_several_creation.proofs.SetLemmas.{are_creatable, same_forms}
-use Rattle.h5w_several_creation_laws.specs.SeveralFiles.{AllNamed, AreCreatable, block_behind, created_writes, end_behind, end_from, end_of, first_place, index_behind, super_of}
-use Rattle.h5w_several_creation_laws.proofs.PlaceLemmas.{end_above, end_small}
+use Rattle.h5w_several_creation_laws.specs.SeveralFiles.{AllNamed, AreCreatable, created_writes, end_behind, end_of, first_place, super_of}
 use Rattle.h5w_several_creation_laws.proofs.StandLaws.{several_sizes}
 use Rattle.h5w_several_creating.specs.Created.{AreIndexes, IsShownAll, begun_of, created_part, created_parts, shown_all, shown_file, showing_all}
 use Rattle.h5w_several_creating.proofs.StandLemmas.{many_begun, many_parts, none_pending}
+use Rattle.h5w_front_laws.specs.Fronts.{AllKeepFront, IsLeftOpen}
+use Rattle.h5w_front_laws.proofs.NewFrontLemmas.{new_fronts}
 use Rattle.h5w_several_laws.proofs.SeenLemmas.{seen_laws}
-use Rattle.h5w_several_writer.specs.Refusals.{HasRoomForAll}
 use Rattle.h5w_several_writer_laws.specs.Sessions.{Sessions, all_pending, counts_of}
 use Rattle.h5w_several_writer_laws.specs.Standing.{StandsAll}
 use Rattle.h5w_several_writer_laws.proofs.GiveLemmas.{standing_all}
+use Rattle.h5w_several_writer_laws.proofs.SeenLemmas.{length_pieces}
 use Rattle.h5w_several_scripts.specs.Scripts.{FileState, SetState, due, first_in}
 use Rattle.h5w_several_scripts.specs.Polled.{FilePolled, IsPolled, Places, readers_of}
 use Rattle.h5w_several_scripts.proofs.PolledLemmas.{not_placed}
@@ -50,10 +49,10 @@ use Rattle.h5w_several_world_laws.proofs.StepLemmas.{begun_there, part_there, st
 use Rattle.h5w_core.specs.Worlds.{rules_for}
 use Rattle.h5w_several_core.specs.Creation.{AllSome, CreatesAll, new_files}
 use Rattle.h5w_several_core.specs.Places.{nobody, place_at, seated, vacant}
-use Rattle.h5w_several_core.specs.Worlds.{AreAllMade, HaveFileLog, HoldsAll, SeveralView, names_of, rules_of}
+use Rattle.h5w_several_core.specs.Worlds.{HasFront, HaveFileLog, HoldsAll, IsKeptOf, names_of, rules_of}
 use Rattle.h5w_several_core.specs.declared.places.Place.{Place}
 use Rattle.h5w_several_core.proofs.MachineLemmas.{world_of}
-use Rattle.h5w_several_core.proofs.RuleLemmas.{count_rules, polls_in, rules_by}
+use Rattle.h5w_several_core.proofs.RuleLemmas.{polls_in, rules_by}
 
 -- ---- Lists
 
@@ -115,19 +114,11 @@ named_at root t budget place (g ∷ fs) (v ∷ vs) zero f s at there =
     ap (λ (x : Session). x.name) (sym part) ∙ ap (λ (x : CreatedFile). x.name) file
 named_at root t budget place (g ∷ fs) (v ∷ vs) (suc d) f s at there = named_at root t budget (end_behind place g) fs vs d f s at there
 
-made_all : (root : Super) (t : Space) (budget place : ℕ) (fs : List CreatedFile) (vs : List IndexView) → end_from place fs ≤ 8192 → AreIndexes place fs vs → AreAllMade (created_parts root t budget place fs vs)
-made_all root t budget place [] vs small x = tt
-made_all root t budget place (f ∷ fs) [] small x = tt
-made_all root t budget place (f ∷ fs) (v ∷ vs) small x =
-    let above = end_above (end_behind place f) fs in
-    let low : index_behind place f < undefined = omega (arith, above, small) in
-    let some : 0 < block_behind place f = omega arith in (
-      (
-        record { named = λ is. omega (arith, low, is); made = new_made f.index (index_behind place f) (block_behind place f) v some x.0.1 },
-        new_roomy f.index (index_behind place f) (block_behind place f) v (created_part root t budget place f v).dataset x.0.1,
-      ),
-      made_all root t budget (end_behind place f) fs vs small x.1,
-    )
+-- and this budget
+made_budgets : (root : Super) (t : Space) (budget place : ℕ) (fs : List CreatedFile) (vs : List IndexView) → AllByRecursion (λ (s : Session). s.budget ≡ budget) (created_parts root t budget place fs vs)
+made_budgets root t budget place [] vs = tt
+made_budgets root t budget place (f ∷ fs) [] = tt
+made_budgets root t budget place (f ∷ fs) (v ∷ vs) = (refl, made_budgets root t budget (end_behind place f) fs vs)
 
 -- ---- The first state
 
@@ -292,11 +283,6 @@ module _ (fs : List CreatedFile) (limit budget attempts : ℕ) (vs : List IndexV
       };
     }
 
-  pub shown_made : AreAllMade S.parts
-  shown_made =
-      let small = end_small fs are in
-      made_all (super_of 5 fs) (places_to (end_of fs) limit) budget (first_place fs) fs vs small indexes
-
 -- ---- The machine
 
 pub created_fits : (names : List (List ℕ)) (o : Options) (attempts : ℕ) (S : Sessions) (m : MemView) (places : List Place) → CreatesAll names o S m → places ≡ nobody
@@ -313,10 +299,19 @@ created_fits names o attempts S m places x none =
       file = record {
         stands = stands;
         start = refl;
+        begun = let many = ap (λ (ws : List Write). length ws) (shown_pieces (created_writes fs) []) in omega (arith, many, length_pieces (shown_file fs).events);
         journal = x.history ∙ sym (shown_pieces (created_writes fs) []);
         bytes = x.bytes ∙ ap (image []) (sym (shown_pieces (created_writes fs) []));
       };
     }))
+
+created_front : (names : List (List ℕ)) (o : Options) (S : Sessions) (m : MemView) → CreatesAll names o S m → HasFront S m.bytes
+created_front names o S m x =
+    let fs = new_files names o in
+    let new = new_fronts.several fs x.creatable in
+    let none = none_pending (super_of 5 fs) (places_to (end_of fs) o.limit) o.budget (first_place fs) fs x.is.indexes in
+    subst (λ (U : Sessions). HasFront U m.bytes) (sym x.is.is)
+    (record { begins = subst IsLeftOpen (sym x.bytes) new.0; keeps = record { root = new.1; pieces = subst AllKeepFront (sym none) tt } })
 
 pub created_holds : (names : List (List ℕ)) (o : Options) (attempts : ℕ) (S : Sessions) (m : MemView) (places : List Place) → 1 ≤ attempts → o.limit ≤ 2 ^ 40 → CreatesAll names o S m → places ≡ nobody
     → HoldsAll S m attempts places
@@ -330,10 +325,17 @@ created_holds names o attempts S m places tries high x none =
       count = ap (λ (ps : List Place). length ps) none;
       tries = tries;
       limit = subst (λ (l : ℕ). l ≤ 2 ^ 40) (sym limit) high;
-      made = subst (λ (U : Sessions). AreAllMade U.parts) (sym x.is.is) (shown_made fs o.limit o.budget attempts vs x.creatable x.is.are stands);
+      front = created_front names o S m x;
       script = first_in (rules_of (world_of S m attempts places)) o.limit o.budget;
       fits = created_fits names o attempts S m places x none;
     }
+
+-- the limit and the budget are those of the options, and the session goes on
+pub created_keeps : (names : List (List ℕ)) (o : Options) (S : Sessions) (m : MemView) → 1024 ≤ o.limit → CreatesAll names o S m → IsKeptOf o.limit o.budget false S
+created_keeps names o S m low x =
+    let fs = new_files names o in
+    subst (λ (U : Sessions). IsKeptOf o.limit o.budget false U) (sym x.is.is)
+    (record { low = low; limited = refl; budgets = made_budgets (super_of 5 fs) (places_to (end_of fs) o.limit) o.budget (first_place fs) fs x.is.indexes; stops = refl })
 
 -- ---- Its rules and names
 

@@ -1,15 +1,13 @@
 -- A reader whose unfinished call was taken away, of one of the datasets.
-use Rattle.std.proofs.Common.{◌≡◌, ◌≢◌, ◌⊎◌, ℕ, zero, suc, ◌+◌, ◌*◌, ◌<◌, ◌≤◌, cond, Bool, true, false, List, [], ◌∷◌, length, Option, Some, None, refl, sym, ap, subst, ◌∙◌, inl, inr, arith}
+use Rattle.std.proofs.Common.{◌≡◌, ◌≢◌, ◌⊎◌, ℕ, zero, suc, ◌+◌, ◌<◌, cond, Bool, true, false, List, [], ◌∷◌, length, Option, Some, None, refl, sym, ap, subst, ◌∙◌, inl, inr, arith}
 use Rattle.std.specs.Prelude.{◌==◌, slice_get, slice_set}
-use Rattle.std.specs.Option.{option_map}
 use Rattle.std.proofs.lemmas.Bool.{cond_both, cond-false, cond-true, eq-eqb, eqb-true, ne_eqb}
 use Rattle.std.proofs.lemmas.List.{length-set}
 use Rattle.std.proofs.lemmas.Option.{slice_get_within}
-use Rattle.h5w_model.specs.Lawful.{ReaderState, ScriptState, put_reader, reader_in}
+use Rattle.h5w_model.specs.Lawful.{ReaderState, put_reader, reader_in}
 use Rattle.h5w_model.specs.Logs.{Log}
 use Rattle.h5w_model.specs.Unfinished.{Reader}
 use Rattle.h5w_script_laws.specs.Polling.{MayPoll, Polling}
-use Rattle.h5w_script_laws.specs.Scripts.{Readers}
 use Rattle.h5w_script_laws.proofs.PutLemmas.{put_other}
 use Rattle.h5w_writer.specs.Sessions.{Session}
 use Rattle.h5w_writer_laws.proofs.PieceLemmas.{some_is}
@@ -66,7 +64,7 @@ got_set (suc d) u (x ∷ xs) (suc e) y at =
 
 -- ---- The readers of a dataset
 
-abbrev of_place : ℕ → Option (ℕ × Reader) → Option Reader
+abbrev pub of_place : ℕ → Option (ℕ × Reader) → Option Reader
 of_place d o = elim o as (λ _. Option Reader) [ None ↦ None | Some x ↦ cond (x.0 == d) (Some x.1) None ]
 
 own_seat : (n d : ℕ) (r : Reader) (ps : Places) (k : ℕ) → readers_of d (with_seat n (Some (d, r)) ps) k ≡ cond (n == k) (Some r) (readers_of d ps k)

@@ -1,5 +1,5 @@
 -- The rows of all datasets are flushed.
-use Rattle.std.proofs.Common.{◌≡◌, ◌≢◌, ◌⊎◌, ℕ, ◌<◌, ◌≤◌, ◌^◌, cond, Bool, true, false, List, [], ◌∷◌, length, Option, Some, None, Result, Ok, Err, refl, sym, ap, subst, ◌∙◌, inl, inr, arith}
+use Rattle.std.proofs.Common.{◌≡◌, ◌≢◌, ◌⊎◌, ℕ, ◌≤◌, ◌^◌, cond, Bool, true, false, List, [], length, Option, Some, None, Result, Ok, Err, refl, sym, ap, subst, ◌∙◌, inl, inr}
 use Rattle.std.specs.Prelude.{nat_lt}
 use Rattle.std.specs.Result.{IfErr, IfOk, OnErr, OnOk}
 use Rattle.std.proofs.lemmas.List.{nil_from_length}
@@ -34,8 +34,8 @@ use Rattle.h5w_several_core.specs.declared.events.FileReply.{FileReply}
 use Rattle.h5w_several_core.specs.declared.events.FileReply.TheVariants.{Says}
 use Rattle.h5w_several_core.specs.declared.places.Place.{Place}
 use Rattle.h5w_several_core.proofs.AppendLemmas.{none_above}
+use Rattle.h5w_several_core.proofs.FrontLemmas.{front_flushed, front_held}
 use Rattle.h5w_several_core.proofs.MachineLemmas.{StepsOn, file_steps, replaced, same_logs, same_room, steps_hold, world_of}
-use Rattle.h5w_several_core.proofs.MadeLemmas.{made_flushed, made_held}
 use Rattle.h5w_several_core.proofs.RuleLemmas.{polls_flushed, polls_held, polls_in}
 
 -- ---- Why a session refuses
@@ -50,6 +50,20 @@ Refuses a b n (errors.Space full) = ⊥
 Refuses a b n errors.Deep = ⊥
 Refuses a b n errors.Failed = ⊥
 Refuses a b n errors.OutOfMemory = ⊥
+
+-- want of memory, and an index without room
+abbrev pub IsOther : FlushError → Type 0
+IsOther errors.Deep = Unit {0}
+IsOther errors.OutOfMemory = Unit {0}
+IsOther e = ⊥
+
+never_other : (e : FlushError) (a b : Bool) (n : ℕ) → IsOther e → Refuses a b n e → ⊥
+never_other errors.Stopped a b n other why = other
+never_other (errors.Busy m) a b n other why = other
+never_other (errors.Space full) a b n other why = other
+never_other errors.Deep a b n other why = why
+never_other errors.Failed a b n other why = why
+never_other errors.OutOfMemory a b n other why = why
 
 refuses_by : (a b : Bool) (n : ℕ) (e : FlushError) → refusal_by a b n ≡ Some e → Refuses a b n e
 refuses_by true b n e is = subst (λ (x : FlushError). Refuses true b n x) (some_is errors.Stopped e is) refl
@@ -148,12 +162,16 @@ module _ (S T : Sessions) (m n : MemView) (attempts : ℕ) (ps : List Place) (sa
 
     pub flush_done : FileSteps old events.Flush (flushing_each counts) new
     flush_done =
-        file_steps S T m n attempts ps ps events.Flush (flushing_each counts) flush_polls (λ log stood. same_logs S T m n attempts ps ps log (and_then (plans_each counts) log) same (tells.stands log) refl refl stood)
+        file_steps S T m n attempts ps ps events.Flush (flushing_each counts) flush_polls (λ log stood. same_logs S T m n attempts ps ps log (and_then (plans_each counts) log) same (tells.stands log) refl refl refl stood)
         (λ F h file used. planned_on F h)
 
     pub flush_hold : HoldsAll S m attempts ps → HasRoomForAll T (steady n) → HoldsAll T n attempts ps
     flush_hold h room =
-        steps_hold S T m n attempts ps ps events.Flush (flushing_each counts) h tt flush_done room limit_is (made_flushed S.root T.root S.places T.places S.parts T.parts f.parts h.made) h.count
+        steps_hold S T m n attempts ps ps events.Flush (flushing_each counts) h tt flush_done room limit_is
+        (front_flushed S T m.bytes n.bytes (some_is n.bytes m.bytes same.bytes) h.front h.fits.have.log h.fits.have.stands going.0 going.1 f) h.count
+
+    pub flush_stops : T.stopped ≡ S.stopped
+    flush_stops = ap (λ (U : Sessions). U.stopped) f.session
 
   -- ---- The session refuses
 
@@ -166,7 +184,7 @@ module _ (S T : Sessions) (m n : MemView) (attempts : ℕ) (ps : List Place) (sa
         → FileSteps old events.Flush (says reply) new
     held_done reply logs steps =
         file_steps S T m n attempts ps ps events.Flush (says reply) held_polls
-        (λ log stood. subst (λ (l : FileLog). StandsForFile new l) (sym (logs log)) (same_logs S T m n attempts ps ps log log same (left log) refl refl stood))
+        (λ log stood. subst (λ (l : FileLog). StandsForFile new l) (sym (logs log)) (same_logs S T m n attempts ps ps log log same (left log) refl refl refl stood))
         (λ F h file used. subst (λ (l : FileLog). StepsOn attempts (place_at ps) F (asks flushes) (says reply) T l) (sym (logs h.log)) (steps F h))
 
     pub flush_stopped : flush_refusal_of S ≡ Some errors.Stopped → FileSteps old events.Flush (says replies.Stopped) new
@@ -205,13 +223,13 @@ module _ (S T : Sessions) (m n : MemView) (attempts : ℕ) (ps : List Place) (sa
     held_hold h =
         let others = x.session in
         let pieces : length (all_pending T.parts) ≡ length (all_pending S.parts) = ap (λ (ws : List Write). length ws) (pending_same S.parts T.parts x.parts) in
-        let st : StandsForFile new h.fits.have.log = same_logs S T m n attempts ps ps h.fits.have.log h.fits.have.log same (left h.fits.have.log) refl refl h.fits.file in
+        let st : StandsForFile new h.fits.have.log = same_logs S T m n attempts ps ps h.fits.have.log h.fits.have.log same (left h.fits.have.log) refl refl refl h.fits.file in
         record {
           room = same_room S T m n same pieces (ap (λ (U : Sessions). U.places.end) others) h.room;
           count = h.count;
           tries = h.tries;
           limit = subst (λ (l : ℕ). l ≤ 2 ^ 40) (sym (ap (λ (U : Sessions). U.places.limit) others)) h.limit;
-          made = made_held S.parts T.parts x.parts h.made;
+          front = front_held S T m.bytes n.bytes (some_is n.bytes m.bytes same.bytes) h.front x;
           script = h.script;
           fits = record {
             have = held_left S T attempts (place_at ps) h.script h.fits.have (left h.fits.have.log h.fits.have.stands) x;
@@ -261,9 +279,9 @@ module _ (S : Sessions) (m : MemView) (attempts : ℕ) (ps : List Place) (w : Se
         (flush_full S T m n attempts ps same tells.kept tells.left full
         (other_free S T e tells (λ a b k why. subst (λ (x : FlushError). Refuses a b k x) is why)) lacks)
 
-    pub memory_free : e ≡ errors.OutOfMemory → flush_refusal_of w.session ≡ None
-    memory_free is =
-        ap (λ (x : SeveralView). flush_refusal_of x.session) (sym view) ∙ other_free S T e tells (λ a b k why. subst (λ (x : FlushError). Refuses a b k x) is why)
+    pub memory_free : (f : FlushError) → e ≡ f → IsOther f → flush_refusal_of w.session ≡ None
+    memory_free f is other =
+        ap (λ (x : SeveralView). flush_refusal_of x.session) (sym view) ∙ other_free S T e tells (λ a b k why. never_other f a b k other (subst (λ (x : FlushError). Refuses a b k x) is why))
 
   pub all_polls : (r : Result (List ℕ) FlushError) → FlushTells S T r → pollings_of then ≡ pollings_of w
   all_polls (Ok counts) tells = flush_polls S T m n attempts ps same counts tells ∙ ap pollings_of view
@@ -272,6 +290,10 @@ module _ (S : Sessions) (m : MemView) (attempts : ℕ) (ps : List Place) (w : Se
   pub all_hold : (r : Result (List ℕ) FlushError) → FlushTells S T r → HoldsAll S m attempts ps → OnOk r (HasRoomForAll T (steady n)) → HoldsAll T n attempts ps
   all_hold (Ok counts) tells h room = flush_hold S T m n attempts ps same counts tells h room
   all_hold (Err e) tells h room = held_hold S T m n attempts ps same tells.kept tells.left h
+
+  pub all_stops : (r : Result (List ℕ) FlushError) → FlushTells S T r → T.stopped ≡ S.stopped
+  all_stops (Ok counts) tells = flush_stops S T m n attempts ps same counts tells
+  all_stops (Err e) tells = ap (λ (U : Sessions). U.stopped) tells.kept.session
 
   pub all_held : SameButHeld S T → ((log : FileLog) → StandsAll S log → StandsAll T log) → HoldsMoreIn w then
   all_held kept left = subst (λ (x : SeveralView). HoldsMoreIn x then) view (holds_more S T m n attempts ps same kept left)

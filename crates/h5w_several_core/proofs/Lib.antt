@@ -1,6 +1,7 @@
-pub mod MadeLemmas
 pub mod RuleLemmas
+pub mod FrontLemmas
 pub mod MachineLemmas
+pub mod KeptLemmas
 pub mod AppendLemmas
 pub mod FlushLemmas
 pub mod ShowLemmas
@@ -9,5 +10,7 @@ pub mod EndedLemmas
 pub mod LineLemmas
 pub mod ReaderLemmas
 pub mod CreationLemmas
+pub mod TakeLemmas
+pub mod OneLemmas
 pub mod StepLemmas
 pub mod RunLemmas

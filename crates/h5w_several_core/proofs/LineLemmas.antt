@@ -1,12 +1,11 @@
 -- A line of a reader, by what is made of its place.
-use Rattle.std.proofs.Common.{◌≡◌, ◌⊎◌, ℕ, ◌+◌, ◌<◌, ◌≤◌, ◌^◌, cond, List, [], length, Option, Some, None, refl, sym, ap, subst, ◌∙◌, inl, inr, arith}
+use Rattle.std.proofs.Common.{◌≡◌, ◌⊎◌, ℕ, ◌<◌, ◌≤◌, ◌^◌, List, [], length, Option, Some, None, refl, sym, ap, subst, ◌∙◌, inl, inr, arith}
 use Rattle.std.specs.Prelude.{IsSome, slice_get}
 use Rattle.h5w_model.specs.Numbers.{range}
 use Rattle.h5w_model.specs.Images.{image}
 use Rattle.h5w_model.specs.Logs.{Log, hist}
-use Rattle.h5w_model.specs.Several.{Begun, log_of, pieces_in}
-use Rattle.h5w_model.specs.Calls.{values_call}
-use Rattle.h5w_model.specs.Unfinished.{Unfinished, Reader, fed_left, next_look_of, values_left, wanted}
+use Rattle.h5w_model.specs.Several.{log_of, pieces_in}
+use Rattle.h5w_model.specs.Unfinished.{Unfinished, Reader, fed_left, next_look_of}
 use Rattle.h5w_model.specs.Lawful.{Line, ReaderState, looks, opens, reader_in, reads, refreshes}
 use Rattle.h5w_model.specs.declared.piece.Write.{Write}
 use Rattle.h5w_model.specs.declared.reply.Reply.{Reply}
@@ -25,7 +24,6 @@ use Rattle.h5w_several_scripts.specs.Polled.{Places, and_place, readers_of}
 use Rattle.h5w_several_scripts.proofs.PolledLemmas.{placed_here, set_there}
 use Rattle.h5w_several_world_laws.specs.Worlds.{HaveOneFileLog, polling_in}
 use Rattle.h5w_several_world_laws.specs.ReaderSteps.{ReaderSteps}
-use Rattle.h5w_several_world_laws.specs.Steps.{StepsTo}
 use Rattle.h5w_several_world_laws.proofs.ReaderLemmas.{all_reader_steps}
 use Rattle.h5w_several_world_laws.proofs.StepLemmas.{begun_there, part_there, states_length}
 use Rattle.h5w_core.specs.Readers.{CallReplies, LookGives, LookReplies, LooksTo, ReadBegins, ReadGives, ReadLooks, ReadsNothing, ReadsPast, ReadsTo, RefreshGives, RefreshesTo, looked}

@@ -1,6 +1,6 @@
 -- What steps of the session and of its image make of a machine.
-use Rattle.std.proofs.Common.{◌≡◌, ℕ, ◌+◌, ◌-◌, ◌<◌, ◌≤◌, ◌^◌, List, [], ◌∷◌, ◌++◌, length, map, Option, Some, None, refl, sym, ap, subst, ◌∙◌, arith}
-use Rattle.std.specs.Prelude.{IfSome, slice_get}
+use Rattle.std.proofs.Common.{◌≡◌, ℕ, ◌<◌, ◌≤◌, ◌^◌, List, [], ◌∷◌, ◌++◌, length, map, Option, Some, None, refl, sym, ap, subst, ◌∙◌, arith}
+use Rattle.std.specs.Prelude.{IfSome}
 use Rattle.h5w_model.specs.Images.{image}
 use Rattle.h5w_model.specs.Several.{FileLog, pieces_in, shows_all}
 use Rattle.h5w_model.specs.declared.piece.Write.{Write}
@@ -13,14 +13,16 @@ use Rattle.h5w_writer_laws.proofs.PieceLemmas.{some_is}
 use Rattle.h5w_several_writer.specs.Refusals.{HasRoomForAll}
 use Rattle.h5w_several_writer_laws.specs.Sessions.{Sessions, all_pending}
 use Rattle.h5w_several_writer_laws.specs.Standing.{StandsAll, and_then}
+use Rattle.h5w_several_writer_laws.proofs.SeenLemmas.{length_pieces}
 use Rattle.h5w_several_scripts.specs.Scripts.{AllowedAll, FileLine, FileReply, FileState, next_all}
 use Rattle.h5w_several_scripts.specs.Polled.{Places}
 use Rattle.h5w_several_world_laws.specs.Worlds.{HaveOneFileLog}
 use Rattle.h5w_several_world_laws.proofs.StepLemmas.{states_length}
 use Rattle.h5w_several_core.specs.Places.{place_at}
-use Rattle.h5w_several_core.specs.Worlds.{AreAllMade, FileSteps, HaveFileLog, HoldsAll, IsUsedBy, SeveralView, StandsForFile, line_of, logged_in, pollings_of, set_in}
+use Rattle.h5w_several_core.specs.Worlds.{FileSteps, HasFront, HaveFileLog, HoldsAll, IsUsedBy, SeveralView, StandsForFile, line_of, logged_in, pollings_of, set_in}
 use Rattle.h5w_several_core.specs.declared.events.FileEvent.{FileEvent}
 use Rattle.h5w_several_core.specs.declared.places.Place.{Place}
+use Rattle.h5w_several_core.proofs.FrontLemmas.{front_moved}
 
 -- a machine by its parts
 abbrev pub world_of : Sessions → MemView → ℕ → List Place → SeveralView
@@ -40,11 +42,12 @@ unchanged S T m n attempts places same is = ap (λ (U : Sessions). world_of U n 
 -- ---- Logs
 
 -- the image is as before
-pub same_logs : (S T : Sessions) (m n : MemView) (attempts : ℕ) (ps qs : List Place) (old new : FileLog) → Same (steady m) (steady n) → (StandsAll S old → StandsAll T new) → new.start ≡ old.start → pieces_in new.events ≡ pieces_in old.events
-    → StandsForFile (world_of S m attempts ps) old → StandsForFile (world_of T n attempts qs) new
-same_logs S T m n attempts ps qs old new same stands start pieces h = record {
+pub same_logs : (S T : Sessions) (m n : MemView) (attempts : ℕ) (ps qs : List Place) (old new : FileLog) → Same (steady m) (steady n) → (StandsAll S old → StandsAll T new) → new.start ≡ old.start → new.first ≡ old.first
+    → pieces_in new.events ≡ pieces_in old.events → StandsForFile (world_of S m attempts ps) old → StandsForFile (world_of T n attempts qs) new
+same_logs S T m n attempts ps qs old new same stands start first pieces h = record {
   stands = stands h.stands;
   start = start ∙ h.start;
+  begun = let many = ap (λ (ws : List Write). length ws) pieces in let begun = h.begun in omega (arith, begun, first, many, length_pieces old.events, length_pieces new.events);
   journal = some_is n.history m.history same.history ∙ h.journal ∙ sym pieces;
   bytes = some_is n.bytes m.bytes same.bytes ∙ h.bytes ∙ ap (image []) (sym pieces);
 }
@@ -55,6 +58,7 @@ pub shown_logs : (S T : Sessions) (m n : MemView) (attempts : ℕ) (ps : List Pl
 shown_logs S T m n attempts ps w log wrote stands h = record {
   stands = stands h.stands;
   start = h.start;
+  begun = let begun = h.begun in omega (arith, begun);
   journal = some_is n.history (m.history ++ w ∷ []) wrote.history ∙ ap (λ (ws : List Write). ws ++ w ∷ []) h.journal;
   bytes = some_is n.bytes (image m.bytes (w ∷ [])) wrote.bytes ∙ ap (λ (b : List ℕ). image b (w ∷ [])) h.bytes ∙ sym (image-push [] (pieces_in log.events) w);
 }
@@ -120,7 +124,7 @@ reused w F d h inside =
           grown = st.grown;
         };
       };
-      file = record { stands = h.file.stands; start = h.file.start; journal = h.file.journal; bytes = h.file.bytes };
+      file = record { stands = h.file.stands; start = h.file.start; begun = h.file.begun; journal = h.file.journal; bytes = h.file.bytes };
     }
 
 -- a state that has this dataset in use
@@ -135,15 +139,15 @@ with_used w (Some d) F h inside = record { state = record F { used = d }; fits =
 
 -- after an event
 pub steps_hold : (S T : Sessions) (m n : MemView) (attempts : ℕ) (ps qs : List Place) (event : FileEvent) (reply : FileReply) → HoldsAll S m attempts ps → IfSome (set_in event) (λ (d : ℕ). d < length S.parts)
-    → FileSteps (world_of S m attempts ps) event reply (world_of T n attempts qs) → HasRoomForAll T (steady n) → T.places.limit ≡ S.places.limit → AreAllMade T.parts → length qs ≡ 17 → HoldsAll T n attempts qs
-steps_hold S T m n attempts ps qs event reply h inside steps room limit made count =
+    → FileSteps (world_of S m attempts ps) event reply (world_of T n attempts qs) → HasRoomForAll T (steady n) → T.places.limit ≡ S.places.limit → HasFront T n.bytes → length qs ≡ 17 → HoldsAll T n attempts qs
+steps_hold S T m n attempts ps qs event reply h inside steps room limit front count =
     let u = with_used (world_of S m attempts ps) (set_in event) h.script h.fits inside in
     record {
       room = room;
       count = count;
       tries = h.tries;
       limit = subst (λ (l : ℕ). l ≤ 2 ^ 40) (sym limit) h.limit;
-      made = made;
+      front = front;
       script = next_all u.state (line_of event) reply;
       fits = (steps.lawful u.state u.fits u.used).1;
     }
@@ -160,7 +164,7 @@ same_hold S T m n attempts ps h same is =
       count = h.count;
       tries = h.tries;
       limit = h.limit;
-      made = h.made;
+      front = front_moved S S m.bytes n.bytes (some_is n.bytes m.bytes same.bytes) h.front;
       script = h.script;
       fits = subst (λ (w : SeveralView). HaveFileLog w h.script) (sym (replaced S m n attempts ps same)) h.fits;
     })

@@ -1,5 +1,5 @@
 -- An event of a reader, by its place.
-use Rattle.std.proofs.Common.{◌≡◌, ℕ, ◌<◌, ◌≤◌, cond, List, [], length, get_or, Option, Some, None, option_map, Result, Ok, Err, refl, sym, ap, subst, ◌∙◌, arith}
+use Rattle.std.proofs.Common.{◌≡◌, ℕ, ◌<◌, ◌≤◌, cond, List, length, get_or, Option, Some, None, option_map, Result, Ok, Err, refl, sym, ap, subst, ◌∙◌, arith}
 use Rattle.std.specs.Prelude.{◌==◌, IfSome, slice_get, slice_set}
 use Rattle.std.specs.Result.{IfOk, OnErr}
 use Rattle.std.proofs.lemmas.List.{length-set}
@@ -23,13 +23,14 @@ use Rattle.h5w_space.specs.declared.Full.{Full}
 use Rattle.h5w_core.specs.Readers.{IsCalling, LookGives, LookReplies, MayRead, ReadGives, ReadLooks, RefreshGives, ended, placed}
 use Rattle.h5w_core.specs.Worlds.{full_reply}
 use Rattle.h5w_several_core.specs.Places.{SeatOpens, place_at, reader_in, seat_ended, seat_of, seated, vacant}
-use Rattle.h5w_several_core.specs.Worlds.{FileSteps, HoldsAll, IsKeptIn, IsUsedBy, SeveralView, StandsForFile, as_told, line_of, logged_in, reply_of, set_in}
+use Rattle.h5w_several_core.specs.Worlds.{FileSteps, HasFront, HoldsAll, IsKeptIn, IsUsedBy, SeveralView, StandsForFile, as_told, line_of, logged_in, reply_of, set_in}
 use Rattle.h5w_several_core.specs.declared.events.FileEvent.{FileEvent}
 use Rattle.h5w_several_core.specs.declared.events.FileEvent.TheVariants as events
 use Rattle.h5w_several_core.specs.declared.events.FileReply.{FileReply}
 use Rattle.h5w_several_core.specs.declared.events.FileReply.TheVariants.{Says}
 use Rattle.h5w_several_core.specs.declared.places.Place.{Place}
 use Rattle.h5w_several_core.proofs.EndedLemmas.{FitsOver, ended_fits}
+use Rattle.h5w_several_core.proofs.FrontLemmas.{front_moved}
 use Rattle.h5w_several_core.proofs.LineLemmas.{look_on, look_replies as looks_reply, open_on, read_looks as reads_look, read_on, refresh_on}
 use Rattle.h5w_several_core.proofs.MachineLemmas.{StepsOn, file_steps, same_logs, same_room, steps_hold, world_of}
 use Rattle.h5w_several_core.proofs.SeatLemmas.{any_default, same_seat, set_at, set_seats, with_seat}
@@ -93,32 +94,35 @@ module _ (S : Sessions) (m : MemView) (attempts r : ℕ) (places : List Place) (
     abbrev then : SeveralView
     then = world_of S n attempts qs
 
+    front_still : HasFront S n.bytes
+    front_still = front_moved S S m.bytes n.bytes (some_is n.bytes m.bytes same.bytes) h.front
+
     seat_steps : (event : FileEvent) (reply : Reply) → ((log : FileLog) → logged_in old event (says reply) log ≡ log)
         → ((F : FileState) (have : HaveOneFileLog S attempts (place_at places) F) → StandsForFile old have.log → IsUsedBy event F → StepsOn attempts (with_seat r (seated new) (place_at places)) F (line_of event) (says reply) S have.log)
         → FileSteps old event (says reply) then
     seat_steps event reply logs steps =
         file_steps S S m n attempts places qs event (says reply) refl
-        (λ log stood. subst (λ (l : FileLog). StandsForFile then l) (sym (logs log)) (same_logs S S m n attempts places qs log log same (λ x. x) refl refl stood))
+        (λ log stood. subst (λ (l : FileLog). StandsForFile then l) (sym (logs log)) (same_logs S S m n attempts places qs log log same (λ x. x) refl refl refl stood))
         (λ F have file used.
         subst (λ (l : FileLog). StepsOn attempts (place_at qs) F (line_of event) (says reply) S l) (sym (logs have.log))
         (subst (λ (ps : Places). StepsOn attempts ps F (line_of event) (says reply) S have.log) (sym (set_seats places r new inside)) (steps F have file used)))
 
     seat_hold : (event : FileEvent) (reply : Reply) → IfSome (set_in event) (λ (d : ℕ). d < length S.parts) → FileSteps old event (says reply) then → HoldsAll S n attempts qs
     seat_hold event reply named steps =
-        steps_hold S S m n attempts places qs event (says reply) h named steps (same_room S S m n same refl refl h.room) refl h.made (length-set places r new ∙ h.count)
+        steps_hold S S m n attempts places qs event (says reply) h named steps (same_room S S m n same refl refl h.room) refl front_still (length-set places r new ∙ h.count)
 
     -- some state fits the readers that are left
     over_hold : FitsOver S attempts (place_at places) h.script h.fits.have (with_seat r (seated new) (place_at places)) → HoldsAll S n attempts qs
     over_hold x =
         let y : FitsOver S attempts (place_at places) h.script h.fits.have (place_at qs) =
         subst (λ (ps : Places). FitsOver S attempts (place_at places) h.script h.fits.have ps) (sym (set_seats places r new inside)) x in
-        let stands : StandsForFile then h.fits.have.log = same_logs S S m n attempts places qs h.fits.have.log h.fits.have.log same (λ x. x) refl refl h.fits.file in
+        let stands : StandsForFile then h.fits.have.log = same_logs S S m n attempts places qs h.fits.have.log h.fits.have.log same (λ x. x) refl refl refl h.fits.file in
         record {
           room = same_room S S m n same refl refl h.room;
           count = length-set places r new ∙ h.count;
           tries = h.tries;
           limit = h.limit;
-          made = h.made;
+          front = front_still;
           script = y.state;
           fits = record { have = y.fits; file = subst (λ (l : FileLog). StandsForFile then l) (sym y.log_is) stands };
         }

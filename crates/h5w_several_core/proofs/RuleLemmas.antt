@@ -1,5 +1,5 @@
 -- What readers poll for, and so the rules and the names of the datasets, stay whatever a call makes of the session.
-use Rattle.std.proofs.Common.{◌≡◌, ◌⊎◌, ℕ, zero, suc, ◌<◌, List, [], ◌∷◌, ℤ, length, map, Some, refl, sym, ap, subst, ◌∙◌, inl, inr, arith}
+use Rattle.std.proofs.Common.{◌≡◌, ℕ, zero, suc, ◌<◌, List, [], ◌∷◌, ℤ, length, map, Some, refl, sym, ap, ◌∙◌, inl, inr, arith}
 use Rattle.std.specs.Prelude.{slice_get, slice_set}
 use Rattle.h5w_model.specs.Lawful.{Rules}
 use Rattle.h5w_model.specs.Relations.{AllPaired}
@@ -11,7 +11,7 @@ use Rattle.h5w_writer.specs.Sessions.{AreRows, Session, rows_of, stopped_of, wit
 use Rattle.h5w_writer.specs.Told.{told_of}
 use Rattle.h5w_writer_laws.proofs.PieceLemmas.{some_is}
 use Rattle.h5w_several_writer.specs.Flows.{KeepsPart}
-use Rattle.h5w_several_writer_laws.specs.Sessions.{AreFlushed, AreSameBut, Sessions, bare}
+use Rattle.h5w_several_writer_laws.specs.Sessions.{AreFlushed, AreSameBut, Sessions}
 use Rattle.h5w_several_world_laws.specs.Worlds.{polling_in, rules_in}
 use Rattle.h5w_several_world_laws.proofs.FlushLemmas.{flush_polling}
 use Rattle.h5w_several_core.specs.Worlds.{AreRowsIn, SeveralView, rules_of}

@@ -1,11 +1,11 @@
 -- Lines that take a dataset into use, and events one after another.
-use Rattle.std.proofs.Common.{◌≡◌, ℕ, ◌+◌, ◌-◌, ◌<◌, ◌≤◌, List, [], ◌∷◌, ◌++◌, length, map, Option, Some, None, refl, sym, ap, subst, ◌∙◌, arith}
+use Rattle.std.proofs.Common.{◌≡◌, ℕ, ◌+◌, ◌-◌, ◌<◌, List, [], ◌∷◌, ◌++◌, length, Option, Some, None, refl, sym, ap, subst, arith}
 use Rattle.std.specs.Prelude.{IfSome}
 use Rattle.h5w_model.specs.Lawful.{Rules}
 use Rattle.h5w_several_scripts.specs.Scripts.{AllowedAll, FileLine, FileReply as ScriptReply, FileState, LawfulAll, next_all, uses, using}
-use Rattle.h5w_several_world_laws.proofs.StepLemmas.{states_length, step_laws}
+use Rattle.h5w_several_world_laws.proofs.StepLemmas.{step_laws}
 use Rattle.h5w_several_core.specs.Places.{place_at}
-use Rattle.h5w_several_core.specs.Runs.{FileRuns, RunsLawfullyAll, UsesLawfully, file_after, lines_in, lines_of, replies_in, replies_to}
+use Rattle.h5w_several_core.specs.Runs.{FileRuns, RunsLawfullyAll, UsesLawfully, file_after, lines_in, replies_in}
 use Rattle.h5w_several_core.specs.Worlds.{FileSteps, HaveFileLog, IsUsedBy, SeveralView, line_of, reply_of, rules_of, set_in}
 use Rattle.h5w_several_core.specs.declared.events.FileEvent.{FileEvent}
 use Rattle.h5w_several_core.specs.declared.events.FileReply.{FileReply}

@@ -1,5 +1,5 @@
 -- The readers once one was put into its place.
-use Rattle.std.proofs.Common.{◌≡◌, ◌≢◌, ℕ, ◌<◌, cond, Bool, true, false, List, length, get_or, Option, Some, None, option_map, sym, refl, ap, ◌∙◌}
+use Rattle.std.proofs.Common.{◌≡◌, ℕ, ◌<◌, cond, true, false, List, length, get_or, Option, sym, refl, ap, ◌∙◌}
 use Rattle.std.specs.Prelude.{◌==◌, slice_set}
 use Rattle.std.specs.Option.{unwrap_or}
 use Rattle.std.proofs.lemmas.Bool.{cond_both, eq-eqb, eqb-true}

@@ -1,27 +1,27 @@
 -- A piece becomes visible, and the writer stops.
-use Rattle.std.proofs.Common.{◌≡◌, ◌≢◌, ◌⊎◌, ℕ, ◌<◌, ◌≤◌, ◌^◌, List, [], ◌∷◌, length, refl, sym, ap, subst, ◌∙◌, arith}
-use Rattle.h5w_model.specs.Lawful.{ends, shows_up_to}
+use Rattle.std.proofs.Common.{◌≡◌, ℕ, true, List, [], ◌∷◌, length, refl, sym, ap, subst, ◌∙◌, arith}
+use Rattle.h5w_model.specs.Images.{image}
 use Rattle.h5w_model.specs.Several.{FileLog, shows_all}
 use Rattle.h5w_model.specs.declared.piece.Write.{Write}
 use Rattle.h5w_model.specs.declared.reply.Reply.TheVariants as replies
 use Rattle.h5w_image.specs.Memory.{MemView}
-use Rattle.h5w_image.specs.View.{ImageView, Same, Wrote}
+use Rattle.h5w_image.specs.View.{ImageView, Wrote}
 use Rattle.h5w_image.proofs.ViewLemmas.{same_itself}
 use Rattle.h5w_steady.specs.Steady.{steady}
+use Rattle.h5w_writer_laws.proofs.PieceLemmas.{some_is}
 use Rattle.h5w_several_writer.specs.Flows.{KeepsParts}
 use Rattle.h5w_several_writer.specs.Refusals.{HasRoomForAll}
 use Rattle.h5w_several_writer.proofs.EndLemmas.{stopped_none}
 use Rattle.h5w_several_writer_laws.specs.Sessions.{AfterPieceOf, Sessions, all_pending, stopped_all}
 use Rattle.h5w_several_writer_laws.specs.Standing.{StandsAll, and_then}
-use Rattle.h5w_several_scripts.specs.Scripts.{FileReply, FileState, asks, says}
-use Rattle.h5w_several_world_laws.specs.Worlds.{HaveOneFileLog}
+use Rattle.h5w_several_scripts.specs.Scripts.{FileReply, says}
 use Rattle.h5w_several_world_laws.proofs.StepLemmas.{shown_none, shown_steps, stopped_steps}
 use Rattle.h5w_several_core.specs.Places.{place_at}
 use Rattle.h5w_several_core.specs.Worlds.{FileSteps, HoldsAll, SeveralView, StandsForFile, pollings_of, shown_log}
 use Rattle.h5w_several_core.specs.declared.events.FileEvent.TheVariants as events
 use Rattle.h5w_several_core.specs.declared.places.Place.{Place}
-use Rattle.h5w_several_core.proofs.MachineLemmas.{StepsOn, file_steps, same_logs, shown_logs, steps_hold, world_of}
-use Rattle.h5w_several_core.proofs.MadeLemmas.{made_kept, made_stopped}
+use Rattle.h5w_several_core.proofs.FrontLemmas.{front_shown, front_stopped}
+use Rattle.h5w_several_core.proofs.MachineLemmas.{file_steps, same_logs, shown_logs, steps_hold, world_of}
 use Rattle.h5w_several_core.proofs.RuleLemmas.{polls_in, polls_kept, polls_stopped}
 
 -- ---- A piece
@@ -76,7 +76,9 @@ module _ (S T : Sessions) (m n : MemView) (attempts count left : ℕ) (ps : List
       subst (λ (v : MemView). HoldsAll T v attempts ps) (sym x.2) (subst (λ (U : Sessions). HoldsAll U m attempts ps) (sym x.1) h)
   hold_by (w ∷ ws) pending h room =
       let x = shown.parts w ws pending in
-      steps_hold S T m n attempts ps ps events.Visible (says (replies.Written count left)) h tt show_steps room x.limit (made_kept S.parts T.parts x.each h.made) h.count
+      let y = shown.piece w ws pending in
+      steps_hold S T m n attempts ps ps events.Visible (says (replies.Written count left)) h tt show_steps room x.limit
+      (front_shown S T m.bytes n.bytes w (some_is n.bytes (image m.bytes (w ∷ [])) y.2.bytes) y.1 h.front) h.count
 
   pub show_hold : HoldsAll S m attempts ps → HasRoomForAll T (steady n) → HoldsAll T n attempts ps
   show_hold h room = hold_by (all_pending S.parts) refl h room
@@ -86,6 +88,13 @@ module _ (S T : Sessions) (m n : MemView) (attempts count left : ℕ) (ps : List
       let x = shown.nothing pending in
       ap (λ (U : Sessions). polls_in U.places.limit attempts U.parts) x.1
   polls_by (w ∷ ws) pending = kept_polls S T m n attempts ps (shown.parts w ws pending)
+
+  stops_by : (ws : List Write) → all_pending S.parts ≡ ws → T.stopped ≡ S.stopped
+  stops_by [] pending = ap (λ (U : Sessions). U.stopped) (shown.nothing pending).1
+  stops_by (w ∷ ws) pending = ap (λ (U : Sessions). U.stopped) (shown.parts w ws pending).session
+
+  pub show_stops : T.stopped ≡ S.stopped
+  show_stops = stops_by (all_pending S.parts) refl
 
   pub show_polls : pollings_of (world_of T n attempts ps) ≡ pollings_of (world_of S m attempts ps)
   show_polls = polls_by (all_pending S.parts) refl
@@ -102,7 +111,7 @@ module _ (S T : Sessions) (m : MemView) (attempts : ℕ) (ps : List Place) (is :
   stopped_file : FileSteps (world_of S m attempts ps) events.Stop (says replies.Stopped) (world_of (stopped_all S) m attempts ps)
   stopped_file =
       file_steps S (stopped_all S) m m attempts ps ps events.Stop (says replies.Stopped) stopped_polls
-      (λ log stood. same_logs S (stopped_all S) m m attempts ps ps log log (same_itself (steady m)) (stopped_logs log) refl refl stood)
+      (λ log stood. same_logs S (stopped_all S) m m attempts ps ps log log (same_itself (steady m)) (stopped_logs log) refl refl refl stood)
       (λ F h file used.
       let s = stopped_steps S attempts (place_at ps) F h in
       record { allowed = s.allowed; fits = s.fits; log_is = refl })
@@ -121,7 +130,10 @@ module _ (S T : Sessions) (m : MemView) (attempts : ℕ) (ps : List Place) (is :
   pub stop_hold : HoldsAll S m attempts ps → HoldsAll T m attempts ps
   stop_hold h =
       subst (λ (U : Sessions). HoldsAll U m attempts ps) (sym is)
-      (steps_hold S (stopped_all S) m m attempts ps ps events.Stop (says replies.Stopped) h tt stopped_file (stopped_room h.room) refl (made_stopped S.parts h.made) h.count)
+      (steps_hold S (stopped_all S) m m attempts ps ps events.Stop (says replies.Stopped) h tt stopped_file (stopped_room h.room) refl (front_stopped S m.bytes h.front) h.count)
+
+  pub stop_stops : T.stopped ≡ true
+  stop_stops = ap (λ (U : Sessions). U.stopped) is
 
 -- ---- Room
 

@@ -1,10 +1,9 @@
 -- The reply to an event, from that of the call that did it.
-use Rattle.std.proofs.Common.{◌≡◌, List, Result, Ok, Err, map, sym, refl, ap, subst, ◌∙◌}
+use Rattle.std.proofs.Common.{◌≡◌, Result, Ok, Err, subst}
 use Rattle.std.specs.Result.{IfOk}
 use Rattle.h5w_model.specs.Several.{FileLog}
 use Rattle.h5w_model.specs.declared.memory.OutOfMemory.{OutOfMemory}
 use Rattle.h5w_space.specs.declared.Full.{Full}
-use Rattle.h5w_script_laws.specs.Polling.{Polling}
 use Rattle.h5w_several_writer.specs.Refusals.{IsFullAmong}
 use Rattle.h5w_several_scripts.specs.Scripts.{AllowedAll, FileState, next_all}
 use Rattle.h5w_core.specs.Worlds.{full_reply}

@@ -4,6 +4,7 @@ use Rattle.h5w_model.specs.Unfinished.{ReaderRules, Reader}
 use Rattle.h5w_model.specs.declared.reply.Reply.{Reply}
 use Rattle.h5w_model.specs.declared.reply.Reply.TheVariants as replies
 use Rattle.h5w_reader.specs.Readers.{new_reader}
+use Rattle.h5w_reader.specs.declared.reader.ReaderCore.{ReaderCore}
 use Rattle.h5w_core.specs.Readers.{ended, placed}
 use Rattle.h5w_several_core.specs.declared.places.Place.{Place}
 
@@ -19,6 +20,10 @@ seated p = seat_of p.dataset (placed p.reader)
 -- a place without a reader
 abbrev pub vacant : Place
 vacant = record { dataset = 0; reader = None }
+
+-- the place of a reader of the only dataset, or of none
+abbrev pub only_place : Option ReaderCore → Place
+only_place r = record { dataset = 0; reader = r }
 
 -- places for readers 0 to 16, of which none was opened
 abbrev pub nobody : List Place

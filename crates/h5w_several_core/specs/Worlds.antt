@@ -1,9 +1,10 @@
 -- A machine of one writer of several datasets of one file, its image and its readers: what its value is, of which logs of
 -- a file it can be the machine, and of which states of a script.
-use Rattle.std.specs.Prelude.{◌≡◌, ℕ, ◌<◌, ◌≤◌, ◌^◌, ℤ, List, [], ◌∷◌, length, map, ◌==◌, if◌then◌else◌, Option, None, Some, IfSome, Result, Ok, Err, slice_get}
+use Rattle.std.specs.Prelude.{◌≡◌, ℕ, ◌<◌, ◌≤◌, ◌^◌, ℤ, List, [], ◌∷◌, length, map, ◌==◌, if◌then◌else◌, Bool, true, Option, None, Some, IfSome, Result, Ok, Err, slice_get}
+use Rattle.std.specs.List.{AllByRecursion}
 use Rattle.h5w_model.specs.Images.{image}
 use Rattle.h5w_model.specs.Lawful.{Rules, adds, ends, flushes, looks, opens, reads, refreshes, shows_up_to}
-use Rattle.h5w_model.specs.Several.{FileLog, appends_to, pieces_in, plans_each, shows_all}
+use Rattle.h5w_model.specs.Several.{FileLog, appends_to, pieces_in, plans_each, shown_in, shows_all, takes_over}
 use Rattle.h5w_model.specs.Unfinished.{Reader}
 use Rattle.h5w_model.specs.declared.piece.Write.{Write}
 use Rattle.h5w_model.specs.declared.memory.OutOfMemory.{OutOfMemory}
@@ -13,11 +14,13 @@ use Rattle.h5w_image.specs.Memory.{MemView}
 use Rattle.h5w_steady.specs.Steady.{steady}
 use Rattle.h5w_script_laws.specs.Polling.{Polling}
 use Rattle.h5w_writer.specs.Early.{dirty_of}
-use Rattle.h5w_writer.specs.Sessions.{IsRoomy, IsWhole, Session, with_values}
+use Rattle.h5w_writer.specs.Sessions.{Session, with_values}
+use Rattle.h5w_front_laws.specs.Fronts.{IsLeftOpen}
+use Rattle.h5w_front_laws.specs.Laws.{AllKeepWritten}
 use Rattle.h5w_several_writer.specs.Refusals.{HasRoomForAll, append_refusal_in, flush_refusal_of}
 use Rattle.h5w_several_writer_laws.specs.Sessions.{SameButHeld, Sessions, all_pending}
 use Rattle.h5w_several_writer_laws.specs.Standing.{StandsAll, and_then}
-use Rattle.h5w_several_scripts.specs.Scripts.{AllowedAll, FileLine, FileState, asks, flushing_each, next_all, says}
+use Rattle.h5w_several_scripts.specs.Scripts.{AllowedAll, FileLine, FileState, asks, flushing_each, goes_on, next_all, says, takes, took_over}
 use Rattle.h5w_several_scripts.specs.Scripts as scripts
 use Rattle.h5w_several_world_laws.specs.Worlds.{HaveOneFileLog, polling_in}
 use Rattle.h5w_core.specs.Readers.{IsCalling, MayRead}
@@ -57,6 +60,7 @@ line_of (events.Append d values) = asks (adds values)
 line_of events.Flush = asks flushes
 line_of events.Visible = asks (shows_up_to 1)
 line_of events.Stop = asks ends
+line_of events.Takeover = takes
 line_of (events.Open reader d) = asks (opens reader)
 line_of (events.Refresh reader) = asks (refreshes reader)
 line_of (events.Read reader from count) = asks (reads reader from count)
@@ -64,6 +68,8 @@ line_of (events.Look reader) = asks (looks reader 1)
 
 abbrev pub reply_of : FileReply → scripts.FileReply
 reply_of (answers.Flushing pieces) = flushing_each pieces
+reply_of answers.Running = goes_on
+reply_of (answers.TakenOver rows) = took_over rows
 reply_of (answers.Says reply) = says reply
 
 -- a reader's reply as one to an event
@@ -77,6 +83,7 @@ set_in (events.Append d values) = Some d
 set_in events.Flush = None
 set_in events.Visible = None
 set_in events.Stop = None
+set_in events.Takeover = None
 set_in (events.Open reader d) = Some d
 set_in (events.Refresh reader) = None
 set_in (events.Read reader from count) = None
@@ -97,6 +104,7 @@ IsHeardIn gs (events.Append d values) = AreRowsIn gs d values
 IsHeardIn gs events.Flush = Unit {0}
 IsHeardIn gs events.Visible = Unit {0}
 IsHeardIn gs events.Stop = Unit {0}
+IsHeardIn gs events.Takeover = Unit {0}
 IsHeardIn gs (events.Open reader d) = (reader ≤ 16) × (d < length gs)
 IsHeardIn gs (events.Refresh reader) = reader ≤ 16
 IsHeardIn gs (events.Read reader from count) = reader ≤ 16
@@ -104,11 +112,12 @@ IsHeardIn gs (events.Look reader) = reader ≤ 16
 
 -- ---- Logs and states
 
--- The machine is that of this log of a file: its session stands for it, its journal is the log's, and its image is what
--- the journal makes of no bytes.
+-- The machine is that of this log of a file: its session stands for it, its journal is the log's, its image is what the
+-- journal makes of no bytes, and a reader finds the file.
 pub record StandsForFile (w : SeveralView) (log : FileLog) : Type 0 where
   pub stands : StandsAll w.session log
   pub start : log.start ≡ []
+  pub begun : log.first ≤ shown_in log.events
   pub journal : w.journal ≡ pieces_in log.events
   pub bytes : w.bytes ≡ image [] (pieces_in log.events)
 
@@ -127,6 +136,7 @@ abbrev pub logged_in : SeveralView → FileEvent → scripts.FileReply → FileL
 logged_in w (events.Append d values) (says (replies.Appended rows pending)) log = and_then (appends_to d values) log
 logged_in w events.Flush (flushing_each counts) log = and_then (plans_each counts) log
 logged_in w events.Visible reply log = shown_log (all_pending w.session.parts) log
+logged_in w events.Takeover (took_over rows) log = and_then takes_over log
 logged_in w event reply log = log
 
 -- An event that was given a reply between two machines: the rules stay; for each state that fits the machine before, and
@@ -136,21 +146,29 @@ pub record FileSteps (old : SeveralView) (event : FileEvent) (reply : scripts.Fi
   pub lawful : (F : FileState) → HaveFileLog old F → IsUsedBy event F → AllowedAll F (line_of event) reply × HaveFileLog new (next_all F (line_of event) reply)
   pub logged : (log : FileLog) → StandsForFile old log → StandsForFile new (logged_in old event reply log)
 
--- the index of each dataset is there, and has room for each chunk that the dataset can have
-abbrev pub AreAllMade : List Session → Type 0
-AreAllMade [] = Unit {0}
-AreAllMade (s ∷ ss) = (IsWhole s × IsRoomy s.dataset s.index) × AreAllMade ss
+-- The file says that it is written, and so it does once any of what is pending became visible.
+pub record HasFront (S : Sessions) (bytes : List ℕ) : Type 0 where
+  pub begins : IsLeftOpen bytes
+  pub keeps : AllKeepWritten S
 
 -- What holds of each machine, by its session, its image, its attempts and its places: the image has room for what is
--- pending, readers 0 to 16 have a place, and some state of a script fits.
+-- pending, and begins as a file that is written; readers 0 to 16 have a place, and some state of a script fits.
 pub record HoldsAll (S : Sessions) (m : MemView) (attempts : ℕ) (places : List Place) : Type 0 where
   pub room : HasRoomForAll S (steady m)
   pub count : length places ≡ 17
   pub tries : 1 ≤ attempts
   pub limit : S.places.limit ≤ 2 ^ 40
-  pub made : AreAllMade S.parts
+  pub front : HasFront S m.bytes
   pub script : FileState
   pub fits : HaveFileLog (record { session = S; bytes = m.bytes; journal = m.history; attempts = attempts; places = places }) script
+
+-- What it keeps of its session beside it: the most bytes of the file, those of each dataset that may wait, and whether
+-- the session was stopped.
+pub record IsKeptOf (limit budget : ℕ) (stopped : Bool) (S : Sessions) : Type 0 where
+  pub low : 1024 ≤ limit
+  pub limited : S.places.limit ≡ limit
+  pub budgets : AllByRecursion (λ (s : Session). s.budget ≡ budget) S.parts
+  pub stops : S.stopped ≡ stopped
 
 -- ---- What is refused
 
@@ -160,6 +178,7 @@ MayWantMemoryIn w (events.Append d values) = (s : Session) → slice_get w.sessi
 MayWantMemoryIn w events.Flush = flush_refusal_of w.session ≡ None
 MayWantMemoryIn w events.Visible = ⊥
 MayWantMemoryIn w events.Stop = ⊥
+MayWantMemoryIn w events.Takeover = w.session.stopped ≡ true
 MayWantMemoryIn w (events.Open reader d) = reader_in w.places reader ≡ None
 MayWantMemoryIn w (events.Refresh reader) = ⊥
 MayWantMemoryIn w (events.Read reader from count) = MayRead from count (reader_in w.places reader)
@@ -195,6 +214,7 @@ IsLeftIn old (events.Append d values) new = new ≡ old
 IsLeftIn old events.Flush new = HoldsMoreIn old new
 IsLeftIn old events.Visible new = new ≡ old
 IsLeftIn old events.Stop new = new ≡ old
+IsLeftIn old events.Takeover new = new ≡ old
 IsLeftIn old (events.Open reader d) new = IsKeptIn old new reader (place_at old.places reader)
 IsLeftIn old (events.Refresh reader) new = new ≡ old
 IsLeftIn old (events.Read reader from count) new = IsKeptIn old new reader (place_at old.places reader)

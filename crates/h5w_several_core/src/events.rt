@@ -13,6 +13,8 @@ pub enum FileEvent {
     Visible,
     /// The writer stops, and drops what is pending.
     Stop,
+    /// Another writer takes the file over from one that was stopped.
+    Takeover,
     /// A reader opens a dataset.
     Open { reader: u64, dataset: usize },
     /// A reader refreshes.
@@ -28,6 +30,10 @@ pub enum FileEvent {
 pub enum FileReply {
     /// How many pieces a flush planned for each dataset, in their order.
     Flushing { pieces: Parts },
+    /// The writer was not stopped, so that nobody takes the file over.
+    Running,
+    /// How many rows of each dataset were flushed, in their order: with these another writer goes on.
+    TakenOver { rows: Parts },
     /// A reply as a machine of one dataset gives it.
     Says(Reply),
 }

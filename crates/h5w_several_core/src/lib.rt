@@ -5,6 +5,7 @@
 mod events;
 mod laws;
 mod places;
+mod taking;
 mod world;
 
 pub use events::{FileEvent, FileReply};

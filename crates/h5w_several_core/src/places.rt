@@ -1,9 +1,9 @@
 //! A place for a reader.
-ghost use Rattle.std.specs.Prelude.{◌≡◌, IfOk, None, Ok, OnErr};
+ghost use Rattle.std.specs.Prelude.{◌≡◌, IfOk, None, Ok, OnErr, map};
 ghost use Rattle.h5w_space.specs.declared.Full.{Full};
 ghost use Rattle.h5w_reader.specs.Readers.{reader_rules};
 ghost use Rattle.h5w_core.specs.Worlds.{full_reply};
-ghost use Rattle.h5w_several_core.specs.Places.{SeatOpens, seated};
+ghost use Rattle.h5w_several_core.specs.Places.{SeatOpens, only_place, seated};
 
 use h5w_core::readers;
 use h5w_model::{OutOfMemory, Reply};
@@ -15,6 +15,20 @@ use std::alloc::Global;
 pub(crate) struct Place {
     pub(crate) dataset: usize,
     pub(crate) reader: Option<ReaderCore>,
+}
+
+/// The readers of the only dataset, each in its place.
+pub(crate) fn of_one(
+    alloc: Global,
+    readers: Vec<Option<ReaderCore>>,
+) -> Result<Vec<Place>, OutOfMemory>
+    ensures { IfOk result (λ places. places.items ≡ map only_place readers.items) }
+{
+    let mut places = Vec::new(alloc);
+    for reader in readers {
+        places.push(Place { dataset: 0, reader })?;
+    }
+    Ok(places)
 }
 
 /// Begins to open a reader of a dataset, which has this name, where none is there.

@@ -1,7 +1,7 @@
 //! The machine of one writer of several datasets and its readers.
-ghost use Rattle.std.specs.Prelude.{◌≡◌, ◌*◌, ◌<◌, ◌≤◌, [], ◌∷◌, ℕ, List, length, map, slice_get, IfOk, IsErr, IsOk, None, Ok, OnErr, Some};
+ghost use Rattle.std.specs.Prelude.{◌≡◌, ◌*◌, ◌<◌, ◌≤◌, [], ◌∷◌, ℕ, List, false, true, length, map, slice_get, IfOk, IsErr, IsOk, None, Ok, OnErr, Some};
 ghost use Rattle.h5w_model.specs.Images.{image};
-ghost use Rattle.h5w_model.specs.Lawful.{Rules};
+ghost use Rattle.h5w_model.specs.Lawful.{Rules, ScriptState};
 ghost use Rattle.h5w_model.specs.Several.{FileLog, shows_all};
 ghost use Rattle.h5w_model.specs.declared.piece.Write.{Write};
 ghost use Rattle.h5w_options.specs.Options.{AreAttempts, AreOptions};
@@ -15,25 +15,27 @@ ghost use Rattle.h5w_several_writer.specs.Flows.{KeepsParts};
 ghost use Rattle.h5w_several_writer.specs.Refusals.{HasRoomForAll, IsFullAmong};
 ghost use Rattle.h5w_several_writer_laws.specs.Sessions.{AfterPieceOf, all_pending};
 ghost use Rattle.h5w_several_writer_laws.specs.Standing.{StandsAll, and_then};
-ghost use Rattle.h5w_several_scripts.specs.Scripts.{FileState, AllowedAll, first_in, next_all};
+ghost use Rattle.h5w_several_scripts.specs.Alone.{alone};
+ghost use Rattle.h5w_several_scripts.specs.Scripts.{FileState, AllowedAll, first_in, next_all, settled_in};
 ghost use Rattle.h5w_core.specs.Readers.{IsCalling, MayRead};
-ghost use Rattle.h5w_core.specs.Worlds.{full_reply, rules_for};
+ghost use Rattle.h5w_core.specs.Worlds.{HaveOneLog, full_reply, rules_for, rules_of as rules_of_one};
 ghost use Rattle.h5w_several_core.specs.Creation.{AllSome, CreatesAll, new_files};
 ghost use Rattle.h5w_several_core.specs.Places.{nobody, place_at, reader_in, seat_ended};
 ghost use Rattle.h5w_several_core.specs.Worlds.{AreRowsIn, FileSteps, HaveFileLog, HoldsMoreIn, IsHeardIn, IsKeptIn, IsLeftIn, IsPastBudget, IsUsedBy, MayWantMemoryIn, StandsForFile, as_told, line_of, logged_in, names_of, pollings_of, reply_of, rules_of};
 
 use crate::events::{FileEvent, FileReply};
 use crate::places::{self, Place};
-use h5w_core::readers;
+use crate::taking;
+use h5w_core::{World, WorldParts, readers};
 use h5w_form::form_of;
 use h5w_image::Journal;
 use h5w_model::{OutOfMemory, Reply, Write};
 use h5w_names::Names;
 use h5w_options::Options;
-use h5w_writer::Full;
 use h5w_several_creating as creating;
 use h5w_several_writer::{AppendError, FlushError, SeveralWriter};
 use h5w_steady::SteadyImage;
+use h5w_writer::Full;
 use std::alloc::Global;
 use std::marker::Model;
 
@@ -47,13 +49,18 @@ pub struct SeveralWorld {
     attempts: u32,
     /// A place for each reader, by its number.
     places: Vec<Place>,
+    /// The most bytes of the file, and of each dataset those that may wait: with these another writer takes it over.
+    limit: u64,
+    budget: u64,
+    /// The writer was stopped.
+    stopped: bool,
 }
 
 impl Model for SeveralWorld {
     ghost use Rattle.std.specs.Coded.{codes};
     ghost use Rattle.h5w_writer.specs.Codes.{tree_code};
     ghost use Rattle.h5w_reader.specs.contracts.reader.ReaderCore as core;
-    ghost use Rattle.h5w_several_core.specs.Worlds.{HoldsAll, SeveralView};
+    ghost use Rattle.h5w_several_core.specs.Worlds.{HoldsAll, IsKeptOf, SeveralView};
 
     ghost Value = { SeveralView };
 
@@ -61,7 +68,7 @@ impl Model for SeveralWorld {
 
     ghost view = { λ w. record { session = w.session; bytes = w.image.bytes; journal = w.image.history; attempts = w.attempts; places = w.places.items } };
 
-    ghost invariant = { λ w. HoldsAll w.session w.image w.attempts w.places.items };
+    ghost invariant = { λ w. HoldsAll w.session w.image w.attempts w.places.items × IsKeptOf w.limit w.budget w.stopped w.session };
 }
 
 /// The oldest pending piece becomes visible, where there is one. Answers how many pieces became visible.
@@ -169,7 +176,47 @@ impl SeveralWorld {
             image,
             attempts,
             places,
+            limit: options.limit,
+            budget: options.budget,
+            stopped: false,
         })
+    }
+
+    /// The machine of the one name of a world whose writer was stopped, once another writer took its file over, and the
+    /// rows that were flushed: with these it goes on. The takeover is as `step` says; it is never refused. Readers go on,
+    /// and so does the journal. The world is gone, also after an error.
+    pub fn of_one(world: World) -> Result<(SeveralWorld, u64), OutOfMemory>
+        requires stopped { world.session.stopped ≡ true }
+        ensures fits { IfOk result (λ x. (s : ScriptState) → HaveOneLog world s → HaveFileLog x.0 (settled_in (alone (rules_of_one world) s))) }
+        ensures rows { IfOk result (λ x. (s : ScriptState) → HaveOneLog world s → x.1 ≡ s.flushed) }
+        ensures rules { IfOk result (λ x. rules_of x.0 ≡ rules_of_one world ∷ []) }
+        ensures names { IfOk result (λ x. names_of x.0 ≡ world.session.name ∷ []) }
+        ensures journal { IfOk result (λ x. x.0.journal ≡ world.journal) }
+    {
+        let WorldParts {
+            session: before,
+            mut image,
+            attempts,
+            readers,
+            limit,
+            budget,
+        } = world.into_parts();
+        let alloc = *readers.allocator();
+        let names = Names::of(alloc, before.name())?;
+        let session = taking::taken(alloc, &mut image, &names, limit, budget)?;
+        let places = places::of_one(alloc, readers)?;
+        let rows = session.committed(0);
+        let machine = SeveralWorld {
+            alloc,
+            session,
+            image,
+            attempts,
+            places,
+            limit,
+            budget,
+            stopped: false,
+        };
+        Ok((machine, rows))
     }
 
     /// How many datasets the file has.
@@ -196,7 +243,12 @@ impl SeveralWorld {
     /// but that a look's call is taken away, and that a flush may have held more blocks of the indexes; memory is not
     /// wanted for what is refused, but maybe for want of a place, nor for a piece that becomes visible. An append is
     /// always refused, as for want of memory, where more bytes of its dataset would wait than the budget has. FullSpace
-    /// is replied only if the file has no place of this size for the rows of one of the datasets.
+    /// is replied only if the file has no place of this size for the rows of one of the datasets. A flush for which an
+    /// index has no room is answered as want of memory.
+    ///
+    /// Takeover is answered Running exactly where the writer was not stopped, and changes nothing then. Else another
+    /// writer takes the file over, and TakenOver tells the rows that were flushed: those that were not are gone, nothing
+    /// is pending, and readers go on. It is never refused, and want of memory leaves all as before.
     pub fn step(&mut self, event: FileEvent) -> Result<FileReply, OutOfMemory>
         requires { IsHeardIn (rules_of self.old) event }
         ensures lawful { IfOk result (λ reply. (F : FileState) → HaveFileLog self.old F → IsUsedBy event F → AllowedAll F (line_of event) (reply_of reply) × HaveFileLog self.new (next_all F (line_of event) (reply_of reply))) }
@@ -209,12 +261,15 @@ impl SeveralWorld {
         ensures past { IsPastBudget self.old event → IsErr result }
         ensures visible { event ≡ FileEvent.Visible → IsOk result }
         ensures stop { event ≡ FileEvent.Stop → IsOk result }
+        ensures running { event ≡ FileEvent.Takeover → self.old.session.stopped ≡ false → result ≡ Ok FileReply.Running }
+        ensures takeover { event ≡ FileEvent.Takeover → self.old.session.stopped ≡ true → IfOk result (λ reply. self.new.session.stopped ≡ false) }
     {
         match event {
             FileEvent::Append { dataset, values } => self.append(dataset, values.as_slice()),
             FileEvent::Flush => self.flush(),
             FileEvent::Visible => Ok(self.show()),
             FileEvent::Stop => Ok(self.stop()),
+            FileEvent::Takeover => self.takeover(),
             FileEvent::Open { reader, dataset } => self.open(reader, dataset),
             FileEvent::Refresh { reader } => Ok(self.refresh(reader)),
             FileEvent::Read {
@@ -266,7 +321,8 @@ impl SeveralWorld {
             Err(FlushError::Space(Full { at, size, limit })) => {
                 Ok(FileReply::Says(Reply::FullSpace { at, size, limit }))
             }
-            Err(FlushError::Deep) => unreachable!(),
+            // an index that was taken over in the middle of a flush is not known to have room
+            Err(FlushError::Deep) => Err(OutOfMemory),
             Err(FlushError::Failed) => unreachable!(),
             Err(FlushError::OutOfMemory) => Err(OutOfMemory),
         }
@@ -292,7 +348,30 @@ impl SeveralWorld {
         ensures polls { pollings_of self.new ≡ pollings_of self.old }
     {
         self.session.stop();
+        self.stopped = true;
         FileReply::Says(Reply::Stopped)
+    }
+
+    /// Another writer takes the file over where the writer was stopped, by the names, the limit and the budget of the
+    /// session before.
+    fn takeover(&mut self) -> Result<FileReply, OutOfMemory>
+        ensures steps { IfOk result (λ reply. FileSteps self.old FileEvent.Takeover (reply_of reply) self.new) }
+        ensures running { self.old.session.stopped ≡ false → result ≡ Ok FileReply.Running }
+        ensures going { IfOk result (λ reply. self.new.session.stopped ≡ false) }
+        ensures no_space { (full : Full) → result ≡ Ok (FileReply.Says (full_reply full)) → ⊥ }
+        ensures polls { pollings_of self.new ≡ pollings_of self.old }
+        ensures kept { OnErr result (self.new ≡ self.old) }
+        ensures memory { OnErr result (MayWantMemoryIn self.old FileEvent.Takeover) }
+    {
+        if !self.stopped {
+            return Ok(FileReply::Running);
+        }
+        let names = taking::names(self.alloc, &self.session)?;
+        let session = taking::taken(self.alloc, &mut self.image, &names, self.limit, self.budget)?;
+        let rows = taking::committed(&session);
+        self.session = session;
+        self.stopped = false;
+        Ok(FileReply::TakenOver { rows })
     }
 
     /// A reader begins to open a dataset.

@@ -1,5 +1,4 @@
 use Rattle.std.proofs.Common.{◌≡◌, ◌∙◌, ℕ, ap, arith, length, replicate, subst, sym}
-use Rattle.h5w_creation.specs.declared.form.Form.{Form}
 use Rattle.h5w_several_creation.specs.Forms.{AreForms}
 use Rattle.h5w_several_creation.proofs.SetLemmas.{same_forms}
 use Rattle.h5w_several_core.proofs.CreationLemmas.{creates_all, put_ends, put_some}

@@ -1,4 +1,4 @@
-use Rattle.std.proofs.Common.{◌≡◌, [], ◌∷◌, ◌∙◌, List, drop, refl, subst, sym}
+use Rattle.std.proofs.Common.{◌≡◌, [], ◌∷◌, ◌∙◌, drop, refl, subst, sym}
 use Rattle.h5w_model.specs.declared.piece.Write.{Write}
 use Rattle.h5w_image.specs.View.{Wrote}
 use Rattle.h5w_steady.specs.Steady.{steady}

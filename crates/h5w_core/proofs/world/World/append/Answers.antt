@@ -1,4 +1,4 @@
-use Rattle.std.proofs.Common.{◌≡◌, ◌∙◌, ℤ, None, Ok, Err, ap, refl, rules, subst, sym, to_z, of_z}
+use Rattle.std.proofs.Common.{◌≡◌, ◌∙◌, ℤ, None, Ok, Err, ap, rules, subst, sym, to_z, of_z}
 use Rattle.std.specs.Int.{w128}
 use Rattle.h5w_model.specs.declared.event.Event.TheVariants as events
 use Rattle.h5w_model.specs.declared.reply.Reply.TheVariants as replies
@@ -9,6 +9,7 @@ use Rattle.h5w_writer.specs.Refusals.{append_refusal}
 use Rattle.h5w_writer.specs.declared.refusal.AppendError.TheVariants as errors
 use Rattle.h5w_core.proofs.NameLemmas.{append_named}
 use Rattle.h5w_core.proofs.HoldLemmas.{append_hold, appended_stands, same_stands}
+use Rattle.h5w_core.proofs.WritingLemmas.{append_writing}
 use Rattle.h5w_core.proofs.world.World.append.Goals as goal
 use Rattle.h5w_core.proofs.world.World.append.Goals.{in-Ok, in-Err-Stopped, in-Err-Busy, in-Err-OutOfRange, in-Err-Chunks, in-Err-OutOfMemory}
 
@@ -47,9 +48,11 @@ pub invariant_of-self : goal.invariant_of-self
 invariant_of-self c =
     let i = c.self.inside in
     let e = c.append.ensures in
-    append_hold i.session c.append.new.self i.image c.append.new.image i.attempts i.readers.items c.args.values.now c.append.result
-    (subst (λ (x : WorldView). AreRowsBy (rules_of x) c.args.values.now) (sym c.self.view_is) c.requires) c.self.invariant e.image
-    (record { added = e.added; rows = e.rows; stands = e.stands; bound = e.bound; over = e.over; refused = e.refused; kept = e.kept }) e.room
+    let vs = c.args.values.now in
+    let tells : AppendTells i.session c.append.new.self vs c.append.result = record { added = e.added; rows = e.rows; stands = e.stands; bound = e.bound; over = e.over; refused = e.refused; kept = e.kept } in (
+      append_hold i.session c.append.new.self i.image c.append.new.image i.attempts i.readers.items vs c.append.result (subst (λ (x : WorldView). AreRowsBy (rules_of x) vs) (sym c.self.view_is) c.requires) c.self.invariant.0 e.image tells e.room,
+      append_writing i.limit i.budget i.stopped i.session c.append.new.self i.image c.append.new.image i.attempts i.readers.items c.self.invariant.0 e.image c.self.invariant.1 vs c.append.result tells e.written,
+    )
 
 pub append-requires : goal.append-requires
 append-requires c =

@@ -3,13 +3,14 @@ use Rattle.h5w_writer.specs.Refusals.{flush_refusal}
 use Rattle.h5w_core.specs.Worlds.{WorldView}
 use Rattle.h5w_core.proofs.FlushLemmas.{LeavesSession, busy_done, flush_done, full_done, full_told, memory_only, stopped_done}
 use Rattle.h5w_core.proofs.NameLemmas.{flush_named}
-use Rattle.h5w_core.proofs.HoldLemmas.{answered, flush_hold, held_stands, holds_more, planned_stands}
+use Rattle.h5w_core.proofs.HoldLemmas.{FlushTells, answered, flush_hold, held_stands, holds_more, planned_stands}
+use Rattle.h5w_core.proofs.WritingLemmas.{flush_writing}
 use Rattle.h5w_core.proofs.world.World.flush.Goals as goal
 use Rattle.h5w_core.proofs.world.World.flush.Goals.{in-Ok, in-Err-Stopped, in-Err-Busy, in-Err-Space, in-Err-OutOfMemory}
 
 pub unreachable-requires : goal.unreachable-requires
 unreachable-requires c =
-    let one = c.self.invariant.fits in
+    let one = c.self.invariant.0.fits in
     c.flush.ensures.shallow one.log one.stands.stands one.stands.new (c.in-Err-Deep.is ∙ ap Err c.in-Err-Deep.field-0-is)
 
 pub returns-clause-steps : goal.returns-clause-steps
@@ -46,8 +47,11 @@ pub invariant_of-self : goal.invariant_of-self
 invariant_of-self c =
     let i = c.self.inside in
     let e = c.flush.ensures in
-    flush_hold i.session c.flush.new.self i.image c.flush.new.image i.attempts i.readers.items c.flush.result c.self.invariant e.image
-    (record { flushed = e.flushed; pieces = e.pieces; some = e.some; nothing = e.nothing; stands = e.stands; bound = e.bound; refused = e.refused; kept = e.kept; left = e.left }) e.room
+    let tells : FlushTells i.session c.flush.new.self c.flush.result =
+    record { flushed = e.flushed; pieces = e.pieces; some = e.some; nothing = e.nothing; stands = e.stands; bound = e.bound; refused = e.refused; kept = e.kept; left = e.left } in (
+      flush_hold i.session c.flush.new.self i.image c.flush.new.image i.attempts i.readers.items c.flush.result c.self.invariant.0 e.image tells e.room,
+      flush_writing i.limit i.budget i.stopped i.session c.flush.new.self i.image c.flush.new.image i.attempts i.readers.items c.self.invariant.0 e.image c.self.invariant.1 c.flush.result tells e.planned,
+    )
 
 pub returns-clause-logged : goal.returns-clause-logged
 returns-clause-logged c =

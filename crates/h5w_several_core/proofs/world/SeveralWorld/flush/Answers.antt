@@ -1,12 +1,10 @@
-use Rattle.std.proofs.Common.{◌≡◌, ◌∙◌, Ok, Err, ap, refl, subst}
-use Rattle.h5w_several_core.proofs.FlushLemmas.{FlushTells, all_held, all_hold, all_polls, busy_steps, full_steps, full_told, memory_free, planned_steps, stopped_steps}
-use Rattle.h5w_several_core.proofs.MadeLemmas.{not_deep}
+use Rattle.std.proofs.Common.{◌∙◌, Ok, Err, ap, sym}
+use Rattle.h5w_writer.specs.declared.refusal.FlushError.TheVariants as errors
+use Rattle.h5w_several_core.specs.Worlds.{pollings_of}
+use Rattle.h5w_several_core.proofs.FlushLemmas.{FlushTells, all_held, all_hold, all_polls, all_stops, busy_steps, full_steps, full_told, memory_free, planned_steps, stopped_steps}
+use Rattle.h5w_several_core.proofs.KeptLemmas.{kept_by}
 use Rattle.h5w_several_core.proofs.world.SeveralWorld.flush.Goals as goal
-use Rattle.h5w_several_core.proofs.world.SeveralWorld.flush.Goals.{in-Ok, in-Err-Stopped, in-Err-Busy, in-Err-Space, in-Err-OutOfMemory}
-
-pub unreachable-requires : goal.unreachable-requires
-unreachable-requires c =
-    not_deep c.self.inside.session.parts c.self.invariant.made (c.flush.ensures.deep (c.in-Err-Deep.is ∙ ap Err c.in-Err-Deep.field-0-is))
+use Rattle.h5w_several_core.proofs.world.SeveralWorld.flush.Goals.{in-Ok, in-Err-Stopped, in-Err-Busy, in-Err-Space, in-Err-Deep, in-Err-OutOfMemory}
 
 pub returns-clause-steps : goal.returns-clause-steps
 returns-clause-steps c =
@@ -32,6 +30,7 @@ returns-clause-steps c =
           let tells : FlushTells i.session T (Err e.field-0) = record { flushed = tt; counts = tt; stands = tt; left = e.ensures.left; refused = e.ensures.refused; causes = e.ensures.causes; kept = e.ensures.kept } in
           rw b.result-is
           (full_steps i.session i.image i.attempts i.places.items w c.self.view_is T n e.ensures.image e.field-0 tells e.field-0-0 e.field-0-is (e.ensures.bound e.field-0-0 (ap Err e.field-0-is)))
+      | in-Err-Deep b ↦ rw b.result-is tt
       | in-Err-OutOfMemory b ↦ rw b.result-is tt
     ]
 
@@ -39,8 +38,12 @@ pub invariant_of-self : goal.invariant_of-self
 invariant_of-self c =
     let i = c.self.inside in
     let e = c.flush.ensures in
-    all_hold i.session i.image i.attempts i.places.items c.args.self.now c.self.view_is c.flush.new.self c.flush.new.image e.image c.flush.result
-    (record { flushed = e.flushed; counts = e.counts; stands = e.stands; left = e.left; refused = e.refused; causes = e.causes; kept = e.kept }) c.self.invariant e.room
+    let tells : FlushTells i.session c.flush.new.self c.flush.result = record { flushed = e.flushed; counts = e.counts; stands = e.stands; left = e.left; refused = e.refused; causes = e.causes; kept = e.kept } in
+    let polls = all_polls i.session i.image i.attempts i.places.items c.args.self.now c.self.view_is c.flush.new.self c.flush.new.image e.image c.flush.result tells in
+    let stops = all_stops i.session i.image i.attempts i.places.items c.args.self.now c.self.view_is c.flush.new.self c.flush.new.image e.image c.flush.result tells in (
+      all_hold i.session i.image i.attempts i.places.items c.args.self.now c.self.view_is c.flush.new.self c.flush.new.image e.image c.flush.result tells c.self.invariant.0 e.room,
+      kept_by i.session c.flush.new.self i.image c.flush.new.image i.attempts i.limit i.budget i.stopped i.stopped i.places.items i.places.items c.self.invariant.0 (polls ∙ sym (ap pollings_of c.self.view_is)) (stops ∙ c.self.invariant.1.stops) c.self.invariant.1,
+    )
 
 pub returns-clause-polls : goal.returns-clause-polls
 returns-clause-polls c =
@@ -57,6 +60,9 @@ returns-clause-kept c =
       | in-Err-Stopped b ↦ rw b.result-is tt
       | in-Err-Busy b ↦ rw b.result-is tt
       | in-Err-Space b ↦ rw b.result-is tt
+      | in-Err-Deep b ↦
+          let e = b.in-Err-Deep.ensures in
+          rw b.result-is (all_held i.session i.image i.attempts i.places.items c.args.self.now c.self.view_is c.flush.new.self c.flush.new.image e.image e.kept e.left)
       | in-Err-OutOfMemory b ↦
           let e = b.in-Err-OutOfMemory.ensures in
           rw b.result-is (all_held i.session i.image i.attempts i.places.items c.args.self.now c.self.view_is c.flush.new.self c.flush.new.image e.image e.kept e.left)
@@ -70,10 +76,14 @@ returns-clause-memory c =
       | in-Err-Stopped b ↦ rw b.result-is tt
       | in-Err-Busy b ↦ rw b.result-is tt
       | in-Err-Space b ↦ rw b.result-is tt
+      | in-Err-Deep b ↦
+          let e = b.in-Err-Deep in
+          let tells : FlushTells i.session c.flush.new.self (Err e.field-0) = record { flushed = tt; counts = tt; stands = tt; left = e.ensures.left; refused = e.ensures.refused; causes = e.ensures.causes; kept = e.ensures.kept } in
+          rw b.result-is (memory_free i.session i.image i.attempts i.places.items c.args.self.now c.self.view_is c.flush.new.self c.flush.new.image e.ensures.image e.field-0 tells errors.Deep e.field-0-is tt)
       | in-Err-OutOfMemory b ↦
           let e = b.in-Err-OutOfMemory in
           let tells : FlushTells i.session c.flush.new.self (Err e.field-0) = record { flushed = tt; counts = tt; stands = tt; left = e.ensures.left; refused = e.ensures.refused; causes = e.ensures.causes; kept = e.ensures.kept } in
-          rw b.result-is (memory_free i.session i.image i.attempts i.places.items c.args.self.now c.self.view_is c.flush.new.self c.flush.new.image e.ensures.image e.field-0 tells e.field-0-is)
+          rw b.result-is (memory_free i.session i.image i.attempts i.places.items c.args.self.now c.self.view_is c.flush.new.self c.flush.new.image e.ensures.image e.field-0 tells errors.OutOfMemory e.field-0-is tt)
     ]
 
 pub returns-clause-full : goal.returns-clause-full
@@ -87,5 +97,6 @@ returns-clause-full c =
           let e = b.in-Err-Space in
           rw b.result-is
           (λ full told. full_told i.session i.image i.attempts i.places.items c.args.self.now c.self.view_is c.flush.new.self c.flush.new.image e.ensures.image e.field-0 e.field-0-0 full e.field-0-is e.ensures.full told)
+      | in-Err-Deep b ↦ rw b.result-is (λ full told. absurd cc)
       | in-Err-OutOfMemory b ↦ rw b.result-is (λ full told. absurd cc)
     ]

@@ -21,8 +21,10 @@ invariant_of-self c =
     let inside = set_inside i.session i.image i.attempts i.places.items c.args.self.now c.args.dataset c.self.view_is c.requires.dataset in
     let s = part_there i.session.parts c.args.dataset inside in
     let gives =
-    subst (λ (name : List ℕ). IfOk c.open.result (λ (reply : Reply). SeatOpens c.args.reader c.args.dataset (reader_rules name i.attempts) (seated p.result.now) reply (seated c.open.new.place))) (c.name.ensures s.0 s.1) c.open.ensures.gives in
-    opened_hold i.session i.image i.attempts c.args.reader i.places.items c.self.invariant c.requires.reader p.result.now p.ensures.value c.args.self.now c.self.view_is c.told.result c.open.result c.told.ensures c.open.new.place c.args.dataset inside s.0 s.1 gives c.open.ensures.kept
+    subst (λ (name : List ℕ). IfOk c.open.result (λ (reply : Reply). SeatOpens c.args.reader c.args.dataset (reader_rules name i.attempts) (seated p.result.now) reply (seated c.open.new.place))) (c.name.ensures s.0 s.1) c.open.ensures.gives in (
+      opened_hold i.session i.image i.attempts c.args.reader i.places.items c.self.invariant.0 c.requires.reader p.result.now p.ensures.value c.args.self.now c.self.view_is c.told.result c.open.result c.told.ensures c.open.new.place c.args.dataset inside s.0 s.1 gives c.open.ensures.kept,
+      c.self.invariant.1,
+    )
 
 pub returns-clause-steps : goal.returns-clause-steps
 returns-clause-steps c =
@@ -32,19 +34,19 @@ returns-clause-steps c =
     let s = part_there i.session.parts c.args.dataset inside in
     let gives =
     subst (λ (name : List ℕ). IfOk c.open.result (λ (reply : Reply). SeatOpens c.args.reader c.args.dataset (reader_rules name i.attempts) (seated p.result.now) reply (seated c.open.new.place))) (c.name.ensures s.0 s.1) c.open.ensures.gives in
-    opened_steps i.session i.image i.attempts c.args.reader i.places.items c.self.invariant c.requires.reader p.result.now p.ensures.value c.args.self.now c.self.view_is c.told.result c.open.result c.told.ensures c.open.new.place c.args.dataset inside s.0 s.1 gives
+    opened_steps i.session i.image i.attempts c.args.reader i.places.items c.self.invariant.0 c.requires.reader p.result.now p.ensures.value c.args.self.now c.self.view_is c.told.result c.open.result c.told.ensures c.open.new.place c.args.dataset inside s.0 s.1 gives
 
 pub returns-clause-kept : goal.returns-clause-kept
 returns-clause-kept c =
     let i = c.self.inside in
     let p = c.index_mut in
-    opened_kept i.session i.image i.attempts c.args.reader i.places.items c.self.invariant c.requires.reader p.result.now p.ensures.value c.args.self.now c.self.view_is c.told.result c.open.result c.told.ensures c.open.new.place c.open.ensures.kept
+    opened_kept i.session i.image i.attempts c.args.reader i.places.items c.self.invariant.0 c.requires.reader p.result.now p.ensures.value c.args.self.now c.self.view_is c.told.result c.open.result c.told.ensures c.open.new.place c.open.ensures.kept
 
 pub returns-clause-memory : goal.returns-clause-memory
 returns-clause-memory c =
     let i = c.self.inside in
     let p = c.index_mut in
-    opened_memory i.session i.image i.attempts c.args.reader i.places.items c.self.invariant c.requires.reader p.result.now p.ensures.value c.args.self.now c.self.view_is c.told.result c.open.result c.told.ensures c.open.new.place c.open.ensures.memory
+    opened_memory i.session i.image i.attempts c.args.reader i.places.items c.self.invariant.0 c.requires.reader p.result.now p.ensures.value c.args.self.now c.self.view_is c.told.result c.open.result c.told.ensures c.open.new.place c.open.ensures.memory
 
 pub returns-clause-no_space : goal.returns-clause-no_space
 returns-clause-no_space c = told_full c.open.result c.told.result c.told.ensures c.open.ensures.no_space

@@ -1,4 +1,4 @@
-use Rattle.std.proofs.Common.{◌∙◌, ap, map, refl, sym, subst}
+use Rattle.std.proofs.Common.{◌∙◌, ap, map, sym, subst}
 use Rattle.h5w_script_laws.specs.Polling.{Polling}
 use Rattle.h5w_several_core.specs.Worlds.{AreRowsIn, IsHeardIn, rules_of}
 use Rattle.h5w_several_core.specs.declared.events.FileEvent.TheVariants as events
@@ -48,6 +48,17 @@ returns-in-Stop-clause-logged c =
 
 pub returns-in-Stop-clause-full : goal.returns-in-Stop-clause-full
 returns-in-Stop-clause-full c = reply_never_full c.args.self.now c.stop.result c.stop.ensures.no_space
+
+pub returns-in-Takeover-clause-lawful : goal.returns-in-Takeover-clause-lawful
+returns-in-Takeover-clause-lawful c =
+    lawful_if_ok c.args.self.now c.takeover.new.self c.args.event events.Takeover c.takeover.result (sym c.in-Takeover.is) c.takeover.ensures.steps
+
+pub returns-in-Takeover-clause-logged : goal.returns-in-Takeover-clause-logged
+returns-in-Takeover-clause-logged c =
+    logged_if_ok c.args.self.now c.takeover.new.self c.args.event events.Takeover c.takeover.result (sym c.in-Takeover.is) c.takeover.ensures.steps
+
+pub returns-in-Takeover-clause-full : goal.returns-in-Takeover-clause-full
+returns-in-Takeover-clause-full c = never_full c.args.self.now c.takeover.result c.takeover.ensures.no_space
 
 pub returns-in-Open-clause-lawful : goal.returns-in-Open-clause-lawful
 returns-in-Open-clause-lawful c =
@@ -122,6 +133,12 @@ returns-in-Stop-clause-rules c = ap (map (λ (g : Polling). g.rules)) c.stop.ens
 
 pub returns-in-Stop-clause-named : goal.returns-in-Stop-clause-named
 returns-in-Stop-clause-named c = ap (map (λ (g : Polling). g.name)) c.stop.ensures.polls
+
+pub returns-in-Takeover-clause-rules : goal.returns-in-Takeover-clause-rules
+returns-in-Takeover-clause-rules c = ap (map (λ (g : Polling). g.rules)) c.takeover.ensures.polls
+
+pub returns-in-Takeover-clause-named : goal.returns-in-Takeover-clause-named
+returns-in-Takeover-clause-named c = ap (map (λ (g : Polling). g.name)) c.takeover.ensures.polls
 
 pub returns-in-Open-clause-rules : goal.returns-in-Open-clause-rules
 returns-in-Open-clause-rules c = ap (map (λ (g : Polling). g.rules)) c.open.ensures.polls
