@@ -35,6 +35,8 @@ mod steps;
 #[cfg(test)]
 mod stops;
 #[cfg(test)]
+mod successors;
+#[cfg(test)]
 mod takes;
 #[cfg(test)]
 mod trees;

@@ -13,6 +13,7 @@ use crate::rows::ROWS;
 use crate::scripts::SCRIPT_ROWS;
 use crate::several::SEVERAL_ROWS;
 use crate::stops::STOP_ROWS;
+use crate::successors::SUCCESSOR_ROWS;
 use crate::takes::TAKE_ROWS;
 use crate::trees::TREE_ROWS;
 use crate::types::TYPE_ROWS;
@@ -313,6 +314,7 @@ fn rows_are_answered(rt: HostRuntime) -> Result<(), Fail> {
         REOPENED_ROWS,
         REPACK_ROWS,
         STOP_ROWS,
+        SUCCESSOR_ROWS,
         TAKE_ROWS,
         LIVE_ROWS,
     ] {

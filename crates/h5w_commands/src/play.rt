@@ -7,8 +7,7 @@ ghost use Rattle.h5w_words.specs.Names.{are_names};
 
 use h5w_names::Names;
 use h5w_options::Options;
-use h5w_playing::play_alone;
-use h5w_several_playing::play_several;
+use h5w_several_playing::{play_alone, play_several};
 use h5w_text::{Sink, Source, Status};
 use std::alloc::Global;
 

@@ -4,7 +4,7 @@ use Rattle.std.specs.Prelude.{IfErr, IfSome, OnOk, flat_map, option_map}
 use Rattle.std.proofs.lemmas.List.{map-append, flat_map_more}
 use Rattle.std.proofs.Math.Seq.{take-append-add}
 use Rattle.h5w_model.specs.Causes.{Rose}
-use Rattle.h5w_text.specs.Streams.{SourceView, SinkView, Gave, GaveSome}
+use Rattle.h5w_text.specs.Streams.{SourceView, SinkView, Gave}
 use Rattle.h5w_input.specs.Bytes.{Lacks}
 use Rattle.h5w_input.specs.Lines.{lines_of, whole_lines_of}
 use Rattle.h5w_input.specs.LinesAhead.{Ended, Given, GivenUp, IntakeView, IsLine, IsOver, IsWhole, Passed, LinesAhead, Stays, lines_left, lines_ahead}

@@ -8,12 +8,9 @@ ghost use Rattle.h5w_playing.specs.Answers.{Answers, InRange};
 ghost use Rattle.h5w_playing.specs.Ones.{Says};
 ghost use Rattle.h5w_playing.specs.Replies.{file_reply_text};
 
-use crate::line::{PlayLine, play_line};
-use crate::machine::{Machine, Refusal};
 use h5w_core::{Event, Reply, World};
-use h5w_input::{ScriptLine, TextLine};
+use h5w_input::ScriptLine;
 use h5w_text::{OutOfMemory, write_numbers, write_reply};
-use std::alloc::Global;
 
 /// Makes up to so many pending pieces visible.
 fn show(world: &mut World, most: u64) -> Result<Reply, OutOfMemory>
@@ -71,8 +68,8 @@ fn reply(world: &mut World, line: ScriptLine) -> Result<Reply, OutOfMemory>
     }
 }
 
-/// Gives the reply to a line of a script, and adds its text.
-fn say_reply(world: &mut World, line: ScriptLine, text: &mut Vec<u8>) -> Result<(), OutOfMemory>
+/// Gives the reply of a world to a line of a script, and adds its text.
+pub fn say_reply(world: &mut World, line: ScriptLine, text: &mut Vec<u8>) -> Result<(), OutOfMemory>
     requires { InRange (rules_of world.old).cutting.columns (line_of_script line) }
     ensures { OnOk result (Says world.old (line_of_script line) world.new text.old.items text.new.items) }
 {
@@ -86,28 +83,4 @@ pub fn say_using(text: &mut Vec<u8>, dataset: usize) -> Result<(), OutOfMemory>
     ensures { OnOk result (text.new.items ≡ text.old.items ++ file_reply_text (using (dataset + 1))) }
 {
     write_numbers(text, b"using", &[dataset as u64 + 1])
-}
-
-impl Machine for World {
-    ghost use Rattle.h5w_playing.specs.Ones.{FitsAlone, spelling_of};
-
-    ghost spelling = { λ w. spelling_of w };
-
-    ghost fits = { λ w F. FitsAlone w F };
-
-    fn answer(
-        &mut self,
-        alloc: Global,
-        line: &TextLine,
-        text: &mut Vec<u8>,
-    ) -> Result<(), Refusal> {
-        let TextLine::Whole(bytes) = line else {
-            return Err(Refusal::Line);
-        };
-        match play_line(alloc, bytes.as_slice(), self.columns(), 1)? {
-            PlayLine::Use(dataset) => say_using(text, dataset)?,
-            PlayLine::Asks(line) => say_reply(self, line, text)?,
-        }
-        Ok(())
-    }
 }

@@ -5,7 +5,7 @@ use Rattle.h5w_model.specs.Lawful.{Line, Rules, adds, ends, flushes, looks, open
 use Rattle.h5w_input.specs.LinesAhead.{IsLine}
 use Rattle.h5w_input.specs.declared.line.TextLine.{TextLine}
 use Rattle.h5w_input.specs.declared.line.TextLine.TheVariants.{Whole}
-use Rattle.h5w_several_scripts.specs.Scripts.{FileLine, FileState, AllowedAll, asks, next_all, uses, using}
+use Rattle.h5w_several_scripts.specs.Scripts.{FileLine, FileState, AllowedAll, asks, next_all, takes, uses, using}
 use Rattle.h5w_several_core.specs.Worlds.{HaveFileLog, IsUsedBy, SeveralView, line_of, reply_of, rules_of}
 use Rattle.h5w_several_core.specs.declared.events.FileEvent.{FileEvent}
 use Rattle.h5w_several_core.specs.declared.events.FileReply.{FileReply}
@@ -16,7 +16,7 @@ use Rattle.h5w_playing.specs.Machines.{GivesReply}
 use Rattle.h5w_playing.specs.Replies.{file_reply_text}
 use Rattle.h5w_playing.proofs.LineLemmas.{asked_line}
 use Rattle.h5w_playing.proofs.RangeLemmas.{in_range}
-use Rattle.h5w_several_playing.specs.Sets.{AnswersIn, FitsAll, IsHeardBy, IsScript, SaysIn, ScriptView, spelling_in}
+use Rattle.h5w_several_playing.specs.Sets.{AnswersIn, FitsAll, IsHeardBy, IsScript, SaysIn, ScriptView, TakesIn, spelling_in}
 
 -- the machine, the dataset in use and the columns as one value
 abbrev pub script_of : SeveralView → (used columns : ℕ) → ScriptView
@@ -67,6 +67,18 @@ said world new used columns s line reply before after (Ok done) view answers tex
   text = text;
 }
 said world new used columns s line reply before after (Err e) view answers text = tt
+
+-- another writer takes the file over, and the text of the reply was added
+pub taken : {E : Type 0} (world new : SeveralView) (used columns : ℕ) (s : ScriptView) (reply : FileReply) (before after : List ℕ) (result : Result (Unit {0}) E) → script_of world used columns ≡ s
+    → ((F : FileState) → HaveFileLog world F → Unit {0} → AllowedAll F takes (reply_of reply) × HaveFileLog new (next_all F takes (reply_of reply))) → OnOk result (after ≡ before ++ file_reply_text (reply_of reply))
+    → OnOk result (TakesIn s (script_of new used columns) before after)
+taken world new used columns s reply before after (Ok done) view lawful text = record {
+  reply = reply_of reply;
+  lawful = λ F f. lawful F (subst (λ (v : ScriptView). HaveFileLog v.world F) (sym view) f) tt;
+  used = ap (λ (v : ScriptView). v.used) view;
+  text = text;
+}
+taken world new used columns s reply before after (Err e) view lawful text = tt
 
 -- ---- What was read
 

@@ -4,3 +4,4 @@ pub mod LookLemmas
 pub mod ScriptLemmas
 pub mod StartLemmas
 pub mod AnswerLemmas
+pub mod AloneLemmas

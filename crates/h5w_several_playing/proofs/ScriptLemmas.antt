@@ -7,7 +7,7 @@ use Rattle.h5w_model.specs.declared.reply.Reply.TheVariants as replies
 use Rattle.h5w_script_laws.specs.OneByOne.{EndsLine}
 use Rattle.h5w_writer.specs.Sessions.{Session}
 use Rattle.h5w_several_writer_laws.specs.Sessions.{all_pending}
-use Rattle.h5w_several_scripts.specs.Scripts.{FileReply, FileState, SetState, AllowedAll, asks, due, flushing_each, left_after, next_all, pending_in, says, shown_sets, total}
+use Rattle.h5w_several_scripts.specs.Scripts.{FileReply, FileState, SetState, AllowedAll, asks, due, flushing_each, goes_on, left_after, next_all, pending_in, says, shown_sets, takes, took_over, total, using}
 use Rattle.h5w_several_world_laws.specs.Worlds.{AreStatesOf}
 use Rattle.h5w_several_world_laws.proofs.ShownLemmas.{total_left}
 use Rattle.h5w_several_core.specs.Worlds.{HaveFileLog, SeveralView, reply_of, rules_of}
@@ -15,7 +15,7 @@ use Rattle.h5w_several_core.specs.declared.events.FileReply.{FileReply as Answer
 use Rattle.h5w_several_core.specs.declared.events.FileReply.TheVariants as answers
 use Rattle.h5w_playing.specs.Lines.{file_line_of}
 use Rattle.h5w_playing.specs.Machines.{GivesReply}
-use Rattle.h5w_several_playing.specs.Sets.{AnswersIn, FitsAll, SaysIn, ScriptView, spelling_in}
+use Rattle.h5w_several_playing.specs.Sets.{AnswersIn, FitsAll, SaysIn, ScriptView, TakesIn, spelling_in}
 use Rattle.h5w_several_playing.proofs.LookLemmas.{LookedAll, is_line}
 use Rattle.h5w_several_playing.proofs.PieceLemmas.{left_none, line_allowed, one_more, set_none, shown_by}
 use Rattle.h5w_several_playing.proofs.UsedLemmas.{keeps_used}
@@ -101,32 +101,44 @@ line_looked used old now new r j k reply h same step ends = record {
       (line.allowed, subst (λ (G : FileState). HaveFileLog new G) (sym line.same) once.1);
 }
 
--- a look's reply is never a flush's
-never_flushing : (F : FileState) (r : ℕ) (counts : List ℕ) → AllowedAll F (asks (looks r 1)) (flushing_each counts) → ⊥
-never_flushing F r counts a = let clash : flushing_each counts ≡ says a.own = a.is in cc
+-- a look's reply is as a script of one dataset is given it
+never_other : (F : FileState) (r : ℕ) (reply : FileReply) → ((own : Reply) → reply ≡ says own → ⊥) → AllowedAll F (asks (looks r 1)) reply → ⊥
+never_other F r reply other a = other a.own a.is
 
 -- this reply ends a line of at most k looks, after so many of them
 abbrev pub EndsWith : Answer → ℕ → ℕ → Type 0
 EndsWith (answers.Says reply) k j = EndsLine reply k j
 EndsWith (answers.Flushing counts) k j = Unit {0}
+EndsWith answers.Running k j = Unit {0}
+EndsWith (answers.TakenOver rows) k j = Unit {0}
 
-pub answer_looked : (used : ℕ) (old now new : SeveralView) (r j k : ℕ) (answer : Answer) → Looked old now r j → rules_of new ≡ rules_of now → LooksOnce now new r (reply_of answer) → EndsWith answer k (j + 1) → AnswersIn used old (looks r k) (reply_of answer) new
-answer_looked used old now new r j k (answers.Says reply) h same step ends = line_looked used old now new r j k reply h same step ends
-answer_looked used old now new r j k (answers.Flushing counts) h same step ends = record {
+-- no other reply is given
+other_looked : (used : ℕ) (old now new : SeveralView) (r j k : ℕ) (reply : FileReply) → Looked old now r j → rules_of new ≡ rules_of now → LooksOnce now new r reply → ((own : Reply) → reply ≡ says own → ⊥) → AnswersIn used old (looks r k) reply new
+other_looked used old now new r j k reply h same step other = record {
   rules = same ∙ h.rules;
   lawful = λ F f u.
       let l = h.fits F f in
-      absurd (never_flushing l.0 r counts (step l.0 l.1 tt).0);
+      absurd (never_other l.0 r reply other (step l.0 l.1 tt).0);
 }
+
+pub answer_looked : (used : ℕ) (old now new : SeveralView) (r j k : ℕ) (answer : Answer) → Looked old now r j → rules_of new ≡ rules_of now → LooksOnce now new r (reply_of answer) → EndsWith answer k (j + 1) → AnswersIn used old (looks r k) (reply_of answer) new
+answer_looked used old now new r j k (answers.Says reply) h same step ends = line_looked used old now new r j k reply h same step ends
+answer_looked used old now new r j k (answers.Flushing counts) h same step ends = other_looked used old now new r j k (flushing_each counts) h same step (λ own e. cc)
+answer_looked used old now new r j k answers.Running h same step ends = other_looked used old now new r j k goes_on h same step (λ own e. cc)
+answer_looked used old now new r j k (answers.TakenOver rows) h same step ends = other_looked used old now new r j k (took_over rows) h same step (λ own e. cc)
 
 -- any other answer than that more looks are to be taken
 pub ends_other : (answer : Answer) (k j : ℕ) → j ≤ k → ((reader : ℕ) → answer ≡ answers.Says (replies.Looking reader) → ⊥) → EndsWith answer k j
 ends_other (answers.Says reply) k j within other = record { within = within; looking = λ reader e. absurd (other reader (ap answers.Says e)) }
 ends_other (answers.Flushing counts) k j within other = tt
+ends_other answers.Running k j within other = tt
+ends_other (answers.TakenOver rows) k j within other = tt
 
 ends_last : (answer : Answer) (k j : ℕ) → k ≡ j → EndsWith answer k j
 ends_last (answers.Says reply) k j e = record { within = omega (arith, e); looking = λ reader is. e }
 ends_last (answers.Flushing counts) k j e = tt
+ends_last answers.Running k j e = tt
+ends_last (answers.TakenOver rows) k j e = tt
 
 -- the last look of a line
 pub last_looked : {E : Type 0} (used : ℕ) (old now new : SeveralView) (r j k : ℕ) (result : Result Answer E) → Looked old now r j → rules_of new ≡ rules_of now → IfOk result (λ answer. LooksOnce now new r (reply_of answer)) → k ≡ j + 1
@@ -146,4 +158,23 @@ asked_in old new bytes line before after spelled told = record {
       let a = told.answers.lawful F f.fits f.used in
       (a.0, record { fits = a.1; used = keeps_used F line told.reply ∙ f.used ∙ sym told.used });
   text = told.text;
+}
+
+-- a takeover leaves which dataset is in use
+used_taken : (F : FileState) (reply : FileReply) → (next_all F takes reply).used ≡ F.used
+used_taken F (using i) = refl
+used_taken F (flushing_each counts) = refl
+used_taken F goes_on = refl
+used_taken F (took_over rows) = refl
+used_taken F (says reply) = refl
+
+pub taken_in : (old new : ScriptView) (bytes : List ℕ) (before after : List ℕ) → file_line_of (spelling_in old) bytes ≡ Some takes → TakesIn old new before after → GivesReply (spelling_in old) bytes (FitsAll old) (FitsAll new) before after
+taken_in old new bytes before after spelled took = record {
+  line = takes;
+  reply = took.reply;
+  spelled = spelled;
+  lawful = λ F f.
+      let a = took.lawful F f.fits in
+      (a.0, record { fits = a.1; used = used_taken F took.reply ∙ f.used ∙ sym took.used });
+  text = took.text;
 }

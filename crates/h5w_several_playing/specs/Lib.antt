@@ -4,3 +4,4 @@ pub use Rattle.h5w_several_core.specs.Worlds
 pub use Rattle.h5w_playing.specs.Plays
 pub use Rattle.h5w_playing.specs.Starts
 pub mod Sets
+pub mod Alone

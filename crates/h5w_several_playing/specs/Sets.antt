@@ -1,7 +1,7 @@
 -- A machine of several datasets as what answers the lines of a script.
 use Rattle.std.specs.Prelude.{◌≡◌, ℕ, ◌<◌, ◌≤◌, List, ◌++◌, length, Some, slice_get}
 use Rattle.h5w_model.specs.Lawful.{Line, Rules, adds, looks, opens, reads, refreshes}
-use Rattle.h5w_several_scripts.specs.Scripts.{FileReply, FileState, AllowedAll, asks, next_all}
+use Rattle.h5w_several_scripts.specs.Scripts.{FileReply, FileState, AllowedAll, asks, next_all, takes}
 use Rattle.h5w_several_core.specs.Worlds.{AreRowsIn, HaveFileLog, SeveralView, rules_of}
 use Rattle.h5w_playing.specs.Lines.{Spelling}
 use Rattle.h5w_playing.specs.Replies.{file_reply_text}
@@ -49,4 +49,11 @@ pub record SaysIn (old : ScriptView) (line : Line) (new : ScriptView) (before af
   pub answers : AnswersIn old.used old.world line reply new.world
   pub used : new.used ≡ old.used
   pub columns : new.columns ≡ old.columns
+  pub text : after ≡ before ++ file_reply_text reply
+
+-- Another writer takes the file over, where its writer was stopped; the text of the reply was added; the dataset in use and the columns stay.
+pub record TakesIn (old new : ScriptView) (before after : List ℕ) : Type 0 where
+  pub reply : FileReply
+  pub lawful : (F : FileState) → HaveFileLog old.world F → AllowedAll F takes reply × HaveFileLog new.world (next_all F takes reply)
+  pub used : new.used ≡ old.used
   pub text : after ≡ before ++ file_reply_text reply

@@ -1,8 +1,10 @@
-//! A script over several datasets of one file: a machine of all of them answers its lines.
+//! Scripts over the datasets of one file, or over its one dataset: machines answer their lines.
 #![tactic(auto)]
 
+mod alone;
 mod playing;
 mod script;
 
+pub use alone::{AloneScript, play_alone};
 pub use playing::play_several;
 pub use script::SeveralScript;

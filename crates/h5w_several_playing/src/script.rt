@@ -1,6 +1,6 @@
 //! A machine of several datasets answers the lines of a script.
-ghost use Rattle.std.specs.Prelude.{◌≡◌, ◌+◌, ◌++◌, ◌<◌, ◌≤◌, ◌*◌, ℕ, length, IfOk, OnOk};
-ghost use Rattle.h5w_model.specs.Lawful.{looks, shows_up_to};
+ghost use Rattle.std.specs.Prelude.{◌≡◌, ◌+◌, ◌++◌, ◌<◌, ◌≤◌, ◌*◌, ℕ, length, slice_get, IfOk, OnOk, Some};
+ghost use Rattle.h5w_model.specs.Lawful.{Rules, looks, shows_up_to};
 ghost use Rattle.h5w_options.specs.Options.{AreAttempts, AreOptions};
 ghost use Rattle.h5w_input.specs.Words.{line_of_script};
 ghost use Rattle.h5w_several_core.specs.Worlds.{reply_of, rules_of};
@@ -10,7 +10,7 @@ ghost use Rattle.h5w_several_creation_laws.specs.SeveralFiles.{AllNamed};
 ghost use Rattle.h5w_playing.specs.Answers.{InRange};
 ghost use Rattle.h5w_playing.specs.Replies.{file_reply_text};
 ghost use Rattle.h5w_playing.specs.Starts.{spelling_for, state_for};
-ghost use Rattle.h5w_several_playing.specs.Sets.{AnswersIn, FitsAll, IsHeardBy, SaysIn, spelling_in};
+ghost use Rattle.h5w_several_playing.specs.Sets.{AnswersIn, FitsAll, IsHeardBy, SaysIn, TakesIn, spelling_in};
 
 use h5w_input::{ScriptLine, TextLine};
 use h5w_model::{OutOfMemory, Reply};
@@ -115,6 +115,8 @@ fn write(text: &mut Vec<u8>, reply: &FileReply) -> Result<(), OutOfMemory>
 {
     match reply {
         FileReply::Flushing { pieces } => write_numbers(text, b"flushing", pieces.as_slice()),
+        FileReply::Running => write_numbers(text, b"running", &[]),
+        FileReply::TakenOver { rows } => write_numbers(text, b"takeover", rows.as_slice()),
         FileReply::Says(reply) => write_reply(text, reply),
     }
 }
@@ -143,6 +145,30 @@ impl SeveralScript {
             used: 0,
             columns,
         })
+    }
+
+    /// The machine of a file with one dataset, which is in use.
+    pub fn of_one(world: SeveralWorld) -> SeveralScript
+        requires { length (rules_of world) ≡ 1 }
+        ensures world { result.world ≡ world }
+        ensures used { result.used ≡ 0 }
+        ensures columns { (g : Rules) → slice_get (rules_of world) 0 ≡ Some g → result.columns ≡ g.cutting.columns }
+    {
+        let columns = world.columns(0);
+        SeveralScript {
+            world,
+            used: 0,
+            columns,
+        }
+    }
+
+    /// Another writer takes the file over where its writer was stopped, and the text of the reply is added.
+    fn take_over(&mut self, text: &mut Vec<u8>) -> Result<(), OutOfMemory>
+        ensures took { OnOk result (TakesIn self.old self.new text.old.items text.new.items) }
+        ensures spelling { OnOk result (spelling_in self.new ≡ spelling_in self.old) }
+    {
+        let reply = self.world.step(FileEvent::Takeover)?;
+        write(text, &reply)
     }
 
     /// Gives the reply to a line of a script, and adds its text.
@@ -188,6 +214,7 @@ impl Machine for SeveralScript {
         };
         match play_line(alloc, bytes.as_slice(), self.columns, self.world.count())? {
             PlayLine::Use(dataset) => self.take(dataset, text)?,
+            PlayLine::Takeover => self.take_over(text)?,
             PlayLine::Asks(line) => self.say_reply(line, text)?,
         }
         Ok(())

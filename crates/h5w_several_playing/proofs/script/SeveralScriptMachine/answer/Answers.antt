@@ -1,13 +1,13 @@
 use Rattle.std.proofs.Common.{◌≡◌, ◌∙◌, ◌+◌, ◌<◌, Some, ap, arith, subst, sym}
 use Rattle.h5w_input.specs.Words.{line_of_script}
 use Rattle.h5w_input.specs.declared.line.TextLine.TheVariants.{Whole}
-use Rattle.h5w_several_scripts.specs.Scripts.{asks, uses}
+use Rattle.h5w_several_scripts.specs.Scripts.{asks, takes, uses}
 use Rattle.h5w_playing.specs.Lines.{IsWithin, file_line_of, line_of_play}
 use Rattle.h5w_playing.specs.declared.line.PlayLine.{PlayLine}
 use Rattle.h5w_playing.proofs.LineLemmas.{long_is_none}
 use Rattle.h5w_several_playing.specs.Sets.{spelling_in}
 use Rattle.h5w_several_playing.proofs.AnswerLemmas.{inside_here, range_here, spelled_here, using_in}
-use Rattle.h5w_several_playing.proofs.ScriptLemmas.{asked_in}
+use Rattle.h5w_several_playing.proofs.ScriptLemmas.{asked_in, taken_in}
 use Rattle.h5w_several_playing.proofs.script.SeveralScriptMachine.answer.Goals as goal
 
 pub returns-in_default-clause-refused : goal.returns-in_default-clause-refused
@@ -56,3 +56,12 @@ returns-in_ok-say_reply-in-Asks-clause-answers c = λ bytes given.
     subst (λ (l : PlayLine). file_line_of (record { columns = i.columns; sets = c.count.result }) own ≡ Some (line_of_play l)) c.in-Asks.is c.in_ok-dataset.ensures.means in
     let spelled = spelled_here i.world i.used i.columns c.args.self.now c.self.view_is c.count.result c.count.ensures.count c.args.line.now own bytes (asks line) (c.in-Whole.is ∙ ap Whole (sym c.as_slice.ensures)) means given in
     asked_in c.args.self.now c.say_reply.new.self bytes line c.args.text.now.items c.say_reply.new.text.items spelled c.in_ok-say_reply-in-Asks.ensures.says
+
+pub returns-in_ok-take_over-in-Takeover-clause-answers : goal.returns-in_ok-take_over-in-Takeover-clause-answers
+returns-in_ok-take_over-in-Takeover-clause-answers c = λ bytes given.
+    let i = c.self.inside in
+    let own = c.as_slice.result.now in
+    let means : file_line_of (record { columns = i.columns; sets = c.count.result }) own ≡ Some takes =
+    subst (λ (l : PlayLine). file_line_of (record { columns = i.columns; sets = c.count.result }) own ≡ Some (line_of_play l)) c.in-Takeover.is c.in_ok-dataset.ensures.means in
+    let spelled = spelled_here i.world i.used i.columns c.args.self.now c.self.view_is c.count.result c.count.ensures.count c.args.line.now own bytes takes (c.in-Whole.is ∙ ap Whole (sym c.as_slice.ensures)) means given in
+    taken_in c.args.self.now c.take_over.new.self bytes c.args.text.now.items c.take_over.new.text.items spelled c.in_ok-take_over-in-Takeover.ensures.took

@@ -4,7 +4,7 @@ use Rattle.h5w_core.specs.Worlds.{rules_of}
 use Rattle.h5w_several_scripts.specs.Alone.{alone}
 use Rattle.h5w_playing.specs.Plays.{Plays}
 use Rattle.h5w_playing.specs.Starts.{spelling_for, state_for}
-use Rattle.h5w_playing.proofs.alone.play_alone.Goals as goal
+use Rattle.h5w_several_playing.proofs.alone.play_alone.Goals as goal
 
 pub returns-in-Err-clause-plays : goal.returns-in-Err-clause-plays
 returns-in-Err-clause-plays g c =
