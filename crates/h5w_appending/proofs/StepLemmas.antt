@@ -1,6 +1,6 @@
 -- The steps of an append: batches that are closed, and lines that are taken.
 use Rattle.std.proofs.Common.{◌≡◌, ◌≢◌, ◌⊎◌, ℕ, ◌+◌, ◌*◌, ◌≤◌, true, false, List, [], ◌∷◌, ◌++◌, length, ℤ, Some, Result, Ok, Err, refl, sym, ap, ◌∙◌, subst, inl, inr, arith, append-nil}
-use Rattle.std.specs.Prelude.{IfSome, IsSome, OnOk, if◌then◌else◌}
+use Rattle.std.specs.Prelude.{IfSome, IsSome, OnOk}
 use Rattle.h5w_model.specs.Causes.{Rose}
 use Rattle.h5w_model.specs.Datasets.{Described}
 use Rattle.h5w_model.specs.declared.piece.Write.{Write}

@@ -14,15 +14,17 @@ ghost use Rattle.h5w_appending.specs.Appending.{ClosesBy, FinishesBy, HasSize, I
 
 use crate::batching::{Ending, close_batch, put_all, take_line, take_run, take_values};
 use crate::putting::close;
+use crate::target::Target;
+use crate::terms::Terms;
 use h5w_batches::INPUT_LIMIT;
 use h5w_files::DiskImage;
 use h5w_image::Disk;
 use h5w_input::{Intake, Lines, Next};
 use h5w_model::ReadError;
-use h5w_writer::WriterCore;
-use h5w_writer_open::OpenError;
 use h5w_several_open::{Beginning, begin_one};
 use h5w_text::{ErrorLine, Sink, Source, Status, say, tell, write_numbers};
+use h5w_writer::WriterCore;
+use h5w_writer_open::OpenError;
 use std::alloc::Global;
 
 /// How many values of lines that stand next are appended at once, at most.
@@ -31,30 +33,27 @@ const RUN: usize = 1024;
 /// Takes the lines that stand next, as far as they are held whole and each is one value of few digits, and appends them all at once. Answers
 /// how many were taken: none where a row has more values, where one line stands there alone, or where they are refused.
 fn take_ahead<S: Source, D: Disk>(
-    columns: u64,
     session: &mut WriterCore,
     lines: &mut Lines<'_, S>,
-    file: &str,
-    faults: u64,
+    target: Target<'_>,
     values: &mut Vec<i128>,
     disk: &mut D,
 ) -> Result<u64, Ending>
-    requires ready { IsReady file.now session.old (D.view disk.old) }
-    requires columns { columns ≡ columns_of session.old }
-    ensures ahead { TakesAhead faults file.now session.old session.new (lines_ahead (S.view lines.old.source.now) lines.old.intake.now) (lines_ahead (S.view lines.new.source.now) lines.new.intake.now) (D.view disk.old) (D.view disk.new) result }
+    requires ready { IsReady target.file.now session.old (D.view disk.old) }
+    ensures ahead { TakesAhead target.entry.faults target.entry.file.now session.old session.new (lines_ahead (S.view lines.old.source.now) lines.old.intake.now) (lines_ahead (S.view lines.new.source.now) lines.new.intake.now) (D.view disk.old) (D.view disk.new) result }
     ensures source { lines.new.source.now ≡ lines.old.source.now }
     ensures same_reference { lines.new.source.ghost_name ≡ lines.old.source.ghost_name }
     ensures same_intake { lines.new.intake.ghost_name ≡ lines.old.intake.ghost_name }
 {
     values.clear();
-    if columns != 1 || values.reserve(RUN).is_err() {
+    if session.columns() != 1 || values.reserve(RUN).is_err() {
         return Ok(0);
     }
     let bytes = lines.values_ahead(values);
     if values.len() < 2 {
         return Ok(0);
     }
-    if take_run(session, values, file, faults, disk)? {
+    if take_run(session, values, target, disk)? {
         lines.pass(bytes);
         return Ok(values.len() as u64);
     }
@@ -63,109 +62,86 @@ fn take_ahead<S: Source, D: Disk>(
 
 /// Appends the lines of an input, one after another, to its end, which closes the last batch.
 fn take_lines<S: Source, K: Sink, D: Disk>(
-    alloc: Global,
-    columns: u64,
     session: &mut WriterCore,
+    columns: u64,
     lines: &mut Lines<'_, S>,
-    file: &str,
-    faults: u64,
+    target: Target<'_>,
     text: &mut Vec<u8>,
     sink: &mut K,
     disk: &mut D,
 ) -> Result<(), Ending>
-    requires ready { IsReady file.now session.old (D.view disk.old) }
+    requires ready { IsReady target.file.now session.old (D.view disk.old) }
     requires columns { columns ≡ columns_of session.old }
     requires room { length lines.old.intake.now.held + lines.old.intake.now.more ≡ input_limit }
     requires limit { lines.old.intake.now.limit ≡ input_limit }
-    ensures ready { ReadyUnlessDisk file.now session.new (D.view disk.new) result }
-    ensures takes { TakesInputOn faults file.now session.old session.new (outside (lines_ahead (S.view lines.old.source.now) lines.old.intake.now)) (S.view lines.new.source.now) (D.view disk.old) (D.view disk.new) (K.view sink.old) (K.view sink.new) result }
+    ensures ready { ReadyUnlessDisk target.entry.file.now session.new (D.view disk.new) result }
+    ensures takes { TakesInputOn target.entry.faults target.entry.file.now session.old session.new (outside (lines_ahead (S.view lines.old.source.now) lines.old.intake.now)) (S.view lines.new.source.now) (D.view disk.old) (D.view disk.new) (K.view sink.old) (K.view sink.new) result }
     ensures source { SameSource (S.view lines.old.source.now) (S.view lines.new.source.now) }
     ensures same_reference { lines.new.source.ghost_name ≡ lines.old.source.ghost_name }
     ensures same_intake { lines.new.intake.ghost_name ≡ lines.old.intake.ghost_name }
 {
-    let mut values = Vec::new(alloc);
+    let mut values = Vec::new(target.alloc);
     let mut number = 0;
     loop {
         if lines.take_numbers(columns, &mut values) {
             number += 1;
-            take_values(session, &values, number, file, faults, text, sink, disk)?;
-            number += take_ahead(columns, session, lines, file, faults, &mut values, disk)?;
+            take_values(session, &values, number, target, text, sink, disk)?;
+            number += take_ahead(session, lines, target, &mut values, disk)?;
             continue;
         }
         match lines.next()? {
             Next::Line(line) => {
                 number += 1;
-                take_line(
-                    alloc, columns, session, &line, number, file, faults, text, sink, disk,
-                )?;
+                take_line(session, &line, number, target, text, sink, disk)?;
             }
             Next::Last(line) => {
-                take_line(
-                    alloc,
-                    columns,
-                    session,
-                    &line,
-                    number + 1,
-                    file,
-                    faults,
-                    text,
-                    sink,
-                    disk,
-                )?;
-                return close_batch(session, file, faults, text, sink, disk);
+                take_line(session, &line, number + 1, target, text, sink, disk)?;
+                return close_batch(session, target, text, sink, disk);
             }
-            Next::End => return close_batch(session, file, faults, text, sink, disk),
+            Next::End => return close_batch(session, target, text, sink, disk),
         }
     }
 }
 
 /// Appends the lines of the source, one after another.
 fn take_source<S: Source, K: Sink, D: Disk>(
-    alloc: Global,
-    columns: u64,
     session: &mut WriterCore,
-    file: &str,
-    faults: u64,
+    columns: u64,
+    target: Target<'_>,
     text: &mut Vec<u8>,
     source: &mut S,
     sink: &mut K,
     disk: &mut D,
 ) -> Result<(), Ending>
-    requires ready { IsReady file.now session.old (D.view disk.old) }
+    requires ready { IsReady target.file.now session.old (D.view disk.old) }
     requires columns { columns ≡ columns_of session.old }
-    ensures ready { ReadyUnlessDisk file.now session.new (D.view disk.new) result }
-    ensures takes { TakesInputOn faults file.now session.old session.new (S.view source.old) (S.view source.new) (D.view disk.old) (D.view disk.new) (K.view sink.old) (K.view sink.new) result }
+    ensures ready { ReadyUnlessDisk target.entry.file.now session.new (D.view disk.new) result }
+    ensures takes { TakesInputOn target.entry.faults target.entry.file.now session.old session.new (S.view source.old) (S.view source.new) (D.view disk.old) (D.view disk.new) (K.view sink.old) (K.view sink.new) result }
     ensures source { SameSource (S.view source.old) (S.view source.new) }
 {
-    let mut intake = Intake::new(alloc, INPUT_LIMIT);
-    let mut lines = Lines::new(alloc, source, &mut intake);
-    take_lines(
-        alloc, columns, session, &mut lines, file, faults, text, sink, disk,
-    )
+    let mut intake = Intake::new(target.alloc, INPUT_LIMIT);
+    let mut lines = Lines::new(target.alloc, source, &mut intake);
+    take_lines(session, columns, &mut lines, target, text, sink, disk)
 }
 
 /// Puts what is pending, by which an opened file says that it is written, and appends the lines of the source. `text` gets the last line of all.
 fn take_all<S: Source, K: Sink, D: Disk>(
-    alloc: Global,
     session: &mut WriterCore,
-    file: &str,
-    faults: u64,
+    target: Target<'_>,
     text: &mut Vec<u8>,
     source: &mut S,
     sink: &mut K,
     disk: &mut D,
 ) -> Result<(), Ending>
-    requires begun { IsBegun file.now session.old (D.view disk.old) }
-    ensures ready { ReadyUnlessDisk file.now session.new (D.view disk.new) result }
-    ensures takes { TakesInputFrom faults file.now session.old session.new (S.view source.old) (S.view source.new) (D.view disk.old) (D.view disk.new) (K.view sink.old) (K.view sink.new) result }
+    requires begun { IsBegun target.file.now session.old (D.view disk.old) }
+    ensures ready { ReadyUnlessDisk target.entry.file.now session.new (D.view disk.new) result }
+    ensures takes { TakesInputFrom target.entry.faults target.entry.file.now session.old session.new (S.view source.old) (S.view source.new) (D.view disk.old) (D.view disk.new) (K.view sink.old) (K.view sink.new) result }
     ensures text { OnOk result (text.new.items ≡ closed_text (rows_of session.new)) }
     ensures source { SameSource (S.view source.old) (S.view source.new) }
 {
     let columns = session.columns();
-    put_all(session, file, faults, disk)?;
-    take_source(
-        alloc, columns, session, file, faults, text, source, sink, disk,
-    )?;
+    put_all(session, target, disk)?;
+    take_source(session, columns, target, text, source, sink, disk)?;
     text.clear();
     match write_numbers(text, b"closed", &[session.rows()]) {
         Ok(()) => Ok(()),
@@ -174,39 +150,33 @@ fn take_all<S: Source, K: Sink, D: Disk>(
 }
 
 /// Closes the session, and puts its last piece into the file.
-fn shut<D: Disk>(
-    session: &mut WriterCore,
-    file: &str,
-    faults: u64,
-    disk: &mut D,
-) -> Result<(), Ending>
-    requires { IsReady file.now session.old (D.view disk.old) }
-    ensures { ClosesBy faults file.now session.old (D.view disk.old) (D.view disk.new) result }
+fn shut<D: Disk>(session: &mut WriterCore, target: Target<'_>, disk: &mut D) -> Result<(), Ending>
+    requires { IsReady target.file.now session.old (D.view disk.old) }
+    ensures { ClosesBy target.entry.faults target.entry.file.now session.old (D.view disk.old) (D.view disk.new) result }
 {
     close(session);
-    put_all(session, file, faults, disk)
+    put_all(session, target, disk)
 }
 
 /// Closes the session behind what was taken of the input, unless the disk failed.
 fn settle<D: Disk>(
     taken: Result<(), Ending>,
     session: &mut WriterCore,
-    file: &str,
-    faults: u64,
+    target: Target<'_>,
     disk: &mut D,
 ) -> Result<(), Ending>
-    requires { ReadyUnlessDisk file.now session.old (D.view disk.old) taken }
+    requires { ReadyUnlessDisk target.file.now session.old (D.view disk.old) taken }
     ensures taken { OnOk result (taken ≡ Ok tt) }
-    ensures settles { SettlesOn faults file.now session.old (D.view disk.old) (D.view disk.new) taken result }
+    ensures settles { SettlesOn target.entry.faults target.entry.file.now session.old (D.view disk.old) (D.view disk.new) taken result }
 {
     match taken {
-        Ok(()) => shut(session, file, faults, disk),
-        Err(Ending::Refused(error)) => match shut(session, file, faults, disk) {
+        Ok(()) => shut(session, target, disk),
+        Err(Ending::Refused(error)) => match shut(session, target, disk) {
             Ok(()) => Err(Ending::Refused(error)),
             Err(ending) => Err(ending),
         },
         Err(Ending::Disk) => Err(Ending::Disk),
-        Err(Ending::Sink) => match shut(session, file, faults, disk) {
+        Err(Ending::Sink) => match shut(session, target, disk) {
             Ok(()) => Err(Ending::Sink),
             Err(_) => Err(Ending::Sink),
         },
@@ -235,25 +205,33 @@ fn open_line(error: OpenError) -> ErrorLine
 /// Looks at a file of this size, and begins a session over it.
 fn look_open<D: Disk>(
     alloc: Global,
-    by: Beginning,
-    file: &str,
+    terms: Terms<'_>,
     size: u64,
     name: &[u8],
-    limit: u64,
-    budget: u64,
     disk: &mut D,
 ) -> Result<WriterCore, ErrorLine>
-    requires there { IsThere (D.view disk.old) file.now }
-    requires sized { HasSize (D.view disk.old) file.now size }
+    requires there { IsThere (D.view disk.old) terms.file.now }
+    requires sized { HasSize (D.view disk.old) terms.file.now size }
     requires name { length name.now ≤ 512 }
-    requires low { 1024 ≤ limit }
-    requires high { limit ≤ 2 ^ 40 }
-    requires budget { (1024 ≤ budget) × (budget ≤ 2 ^ 30) }
+    requires low { 1024 ≤ terms.limit }
+    requires high { terms.limit ≤ 2 ^ 40 }
+    requires budget { (1024 ≤ terms.budget) × (terms.budget ≤ 2 ^ 30) }
     ensures disk { LeavesFiles (D.view disk.old).told (D.view disk.old) (D.view disk.new) }
-    ensures opens { LooksOpen by file.now name.now limit budget (D.view disk.old) (D.view disk.new) result }
+    ensures opens { LooksOpen terms.entry.by terms.entry.file.now name.now terms.entry.limit terms.entry.budget (D.view disk.old) (D.view disk.new) result }
 {
-    let mut image = DiskImage { disk, name: file };
-    match begin_one(alloc, by, &mut image, size, name, limit, budget) {
+    let mut image = DiskImage {
+        disk,
+        name: terms.file,
+    };
+    match begin_one(
+        alloc,
+        terms.by,
+        &mut image,
+        size,
+        name,
+        terms.limit,
+        terms.budget,
+    ) {
         Ok(session) => Ok(session),
         Err(error) => Err(open_line(error)),
     }
@@ -276,68 +254,64 @@ fn retire(session: &mut WriterCore, keeps: bool)
 /// Begins a session over the file, with room for what is pending and the piece that closes the session.
 fn open<D: Disk>(
     alloc: Global,
-    by: Beginning,
-    file: &str,
+    terms: Terms<'_>,
     name: &[u8],
-    limit: u64,
-    budget: u64,
-    keeps: bool,
     disk: &mut D,
 ) -> Result<WriterCore, ErrorLine>
     requires name { length name.now ≤ 512 }
-    requires low { 1024 ≤ limit }
-    requires high { limit ≤ 2 ^ 40 }
-    requires budget { (1024 ≤ budget) × (budget ≤ 2 ^ 30) }
-    ensures { OpensBy by file.now name.now limit budget keeps (D.view disk.old) (D.view disk.new) result }
+    requires low { 1024 ≤ terms.limit }
+    requires high { terms.limit ≤ 2 ^ 40 }
+    requires budget { (1024 ≤ terms.budget) × (terms.budget ≤ 2 ^ 30) }
+    ensures { OpensBy terms.entry.by terms.entry.file.now name.now terms.entry.limit terms.entry.budget terms.entry.keeps (D.view disk.old) (D.view disk.new) result }
 {
-    let size = match disk.size(file) {
+    let size = match disk.size(terms.file) {
         Ok(Some(size)) => size,
         Ok(None) => return Err(ErrorLine::Missing),
         Err(_) => return Err(ErrorLine::Disk),
     };
-    let mut session = match look_open(alloc, by, file, size, name, limit, budget, disk) {
+    let mut session = match look_open(alloc, terms, size, name, disk) {
         Ok(session) => session,
         Err(error) => return Err(error),
     };
-    match disk.reserve(file, session.pending() + 1, session.end()) {
+    match disk.reserve(terms.file, session.pending() + 1, session.end()) {
         Ok(()) => {}
         Err(_) => {
             release(session);
             return Err(ErrorLine::Memory);
         }
     }
-    retire(&mut session, keeps);
+    retire(&mut session, terms.keeps);
     Ok(session)
 }
 
 /// Begins over the file, appends the lines of the source, and closes the session. `text` gets the last line of all.
 fn append_all<S: Source, K: Sink, D: Disk>(
     alloc: Global,
-    by: Beginning,
-    file: &str,
+    terms: Terms<'_>,
     name: &[u8],
-    limit: u64,
-    budget: u64,
-    keeps: bool,
     text: &mut Vec<u8>,
     source: &mut S,
     sink: &mut K,
     disk: &mut D,
 ) -> Result<(), Ending>
     requires name { length name.now ≤ 512 }
-    requires low { 1024 ≤ limit }
-    requires high { limit ≤ 2 ^ 40 }
-    requires budget { (1024 ≤ budget) × (budget ≤ 2 ^ 30) }
-    ensures finishes { FinishesBy by file.now name.now limit budget keeps (S.view source.old) (S.view source.new) (D.view disk.old) (D.view disk.new) (K.view sink.old) (K.view sink.new) text.new.items result }
+    requires low { 1024 ≤ terms.limit }
+    requires high { terms.limit ≤ 2 ^ 40 }
+    requires budget { (1024 ≤ terms.budget) × (terms.budget ≤ 2 ^ 30) }
+    ensures finishes { FinishesBy terms.entry.by terms.entry.file.now name.now terms.entry.limit terms.entry.budget terms.entry.keeps (S.view source.old) (S.view source.new) (D.view disk.old) (D.view disk.new) (K.view sink.old) (K.view sink.new) text.new.items result }
     ensures source { SameSource (S.view source.old) (S.view source.new) }
 {
-    let faults = disk.faults();
-    let mut session = match open(alloc, by, file, name, limit, budget, keeps, disk) {
+    let target = Target {
+        alloc,
+        file: terms.file,
+        faults: disk.faults(),
+    };
+    let mut session = match open(alloc, terms, name, disk) {
         Ok(session) => session,
         Err(error) => return Err(Ending::Refused(error)),
     };
-    let taken = take_all(alloc, &mut session, file, faults, text, source, sink, disk);
-    let settled = settle(taken, &mut session, file, faults, disk);
+    let taken = take_all(&mut session, target, text, source, sink, disk);
+    let settled = settle(taken, &mut session, target, disk);
     release(session);
     settled
 }
@@ -370,10 +344,15 @@ pub fn append<S: Source, K: Sink, D: Disk>(
     ensures appends { AppendEnds by file.now name.now limit budget keeps (S.view source.old) (S.view source.new) (D.view disk.old) (D.view disk.new) result (K.view sink.old) (K.view sink.new) }
     ensures source { SameSource (S.view source.old) (S.view source.new) }
 {
+    let terms = Terms {
+        by,
+        file,
+        limit,
+        budget,
+        keeps,
+    };
     let mut text = Vec::new(alloc);
-    match append_all(
-        alloc, by, file, name, limit, budget, keeps, &mut text, source, sink, disk,
-    ) {
+    match append_all(alloc, terms, name, &mut text, source, sink, disk) {
         Ok(()) => say(&text, Status::Done, sink),
         Err(Ending::Refused(error)) => tell(alloc, &error, sink),
         Err(Ending::Disk) => say(b"error disk\n", Status::Disk, sink),

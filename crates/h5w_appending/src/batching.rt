@@ -9,13 +9,13 @@ ghost use Rattle.h5w_appending.specs.Appends.{columns_of};
 ghost use Rattle.h5w_appending.specs.Appending.{AppendsBy, Closes, FlushRefused, FlushesBy, HasSome, IsReady, LineRefused, PutsBy, ReadyUnlessDisk, RunsOn, StepsOn, TakesLine, Unput};
 
 use crate::putting::put_pending;
+use crate::target::Target;
 use h5w_batches::{BatchError, line_values};
 use h5w_files::DiskImage;
 use h5w_image::Disk;
 use h5w_input::{LineError, TextLine};
-use h5w_writer::{AppendError, FlushError, WriterCore};
 use h5w_text::{ErrorLine, Sink, write_numbers};
-use std::alloc::Global;
+use h5w_writer::{AppendError, FlushError, WriterCore};
 
 /// Why an append ends before its input does.
 #[derive(Drop)]
@@ -114,24 +114,23 @@ fn flush<D: Disk>(session: &mut WriterCore, file: &str, disk: &mut D) -> Result<
     }
 }
 
-/// Puts the session's pending pieces into the file. Where the disk fails, or has failed more often than `faults` times, the session is
+/// Puts the session's pending pieces into the file. Where the disk fails, or has failed since the beginning, the session is
 /// stopped.
 pub fn put_all<D: Disk>(
     session: &mut WriterCore,
-    file: &str,
-    faults: u64,
+    target: Target<'_>,
     disk: &mut D,
 ) -> Result<(), Ending>
-    requires there { IsThere (D.view disk.old) file.now }
+    requires there { IsThere (D.view disk.old) target.file.now }
     requires room { length session.old.pending ≤ (D.view disk.old).pieces }
-    requires end { session.old.places.end ≤ (D.view disk.old).end file.now }
-    ensures { PutsBy faults file.now session.old session.new (D.view disk.old) (D.view disk.new) result }
+    requires end { session.old.places.end ≤ (D.view disk.old).end target.file.now }
+    ensures { PutsBy target.entry.faults target.entry.file.now session.old session.new (D.view disk.old) (D.view disk.new) result }
 {
-    if disk.faults() != faults {
+    if disk.faults() != target.faults {
         session.failed();
         return Err(Ending::Disk);
     }
-    match put_pending(session, file, disk) {
+    match put_pending(session, target.file, disk) {
         Ok(()) => Ok(()),
         Err(_) => {
             session.failed();
@@ -141,30 +140,29 @@ pub fn put_all<D: Disk>(
 }
 
 /// Closes a batch: flushes the rows that wait, where there are any, puts all their pieces into the file, and then writes how many rows it
-/// has. `text` gets that line before. Nothing is put where the disk has failed more often than `faults` times.
+/// has. `text` gets that line before. Nothing is put where the disk has failed since the beginning.
 pub fn close_batch<K: Sink, D: Disk>(
     session: &mut WriterCore,
-    file: &str,
-    faults: u64,
+    target: Target<'_>,
     text: &mut Vec<u8>,
     sink: &mut K,
     disk: &mut D,
 ) -> Result<(), Ending>
-    requires { IsReady file.now session.old (D.view disk.old) }
-    ensures ready { ReadyUnlessDisk file.now session.new (D.view disk.new) result }
+    requires { IsReady target.file.now session.old (D.view disk.old) }
+    ensures ready { ReadyUnlessDisk target.entry.file.now session.new (D.view disk.new) result }
     ensures columns { OnOk result (columns_of session.new ≡ columns_of session.old) }
-    ensures steps { StepsOn faults file.now session.old session.new Closes (FlushRefused session.old) (D.view disk.old) (D.view disk.new) (K.view sink.old) (K.view sink.new) result }
+    ensures steps { StepsOn target.entry.faults target.entry.file.now session.old session.new Closes (FlushRefused session.old) (D.view disk.old) (D.view disk.new) (K.view sink.old) (K.view sink.new) result }
 {
     text.clear();
     match write_numbers(text, b"rows", &[session.rows()]) {
         Ok(()) => {}
         Err(_) => return Err(Ending::Refused(ErrorLine::Memory)),
     }
-    flush(session, file, disk)?;
+    flush(session, target.file, disk)?;
     if session.pending() == 0 {
         return Ok(());
     }
-    put_all(session, file, faults, disk)?;
+    put_all(session, target, disk)?;
     match sink.write(text) {
         Ok(()) => Ok(()),
         Err(_) => Err(Ending::Sink),
@@ -177,23 +175,22 @@ pub fn take_values<K: Sink, D: Disk>(
     session: &mut WriterCore,
     values: &[i128],
     number: u64,
-    file: &str,
-    faults: u64,
+    target: Target<'_>,
     text: &mut Vec<u8>,
     sink: &mut K,
     disk: &mut D,
 ) -> Result<(), Ending>
-    requires ready { IsReady file.now session.old (D.view disk.old) }
+    requires ready { IsReady target.file.now session.old (D.view disk.old) }
     requires rows { AreWholeRows (columns_of session.old) values.now }
-    ensures ready { ReadyUnlessDisk file.now session.new (D.view disk.new) result }
+    ensures ready { ReadyUnlessDisk target.entry.file.now session.new (D.view disk.new) result }
     ensures columns { OnOk result (columns_of session.new ≡ columns_of session.old) }
-    ensures steps { (bytes : List ℕ) → number_line_of (columns_of session.old) bytes ≡ Some values.now → StepsOn faults file.now session.old session.new (TakesLine bytes) (LineRefused bytes number session.old) (D.view disk.old) (D.view disk.new) (K.view sink.old) (K.view sink.new) result }
+    ensures steps { (bytes : List ℕ) → number_line_of (columns_of session.old) bytes ≡ Some values.now → StepsOn target.entry.faults target.entry.file.now session.old session.new (TakesLine bytes) (LineRefused bytes number session.old) (D.view disk.old) (D.view disk.new) (K.view sink.old) (K.view sink.new) result }
 {
     if values.is_empty() {
-        return close_batch(session, file, faults, text, sink, disk);
+        return close_batch(session, target, text, sink, disk);
     }
-    append_values(session, values, number, file, disk)?;
-    put_all(session, file, faults, disk)
+    append_values(session, values, number, target.file, disk)?;
+    put_all(session, target, disk)
 }
 
 /// Appends values, whole rows, and puts the pieces of those rows that are written before their flush. False: they are refused, and nothing
@@ -201,17 +198,16 @@ pub fn take_values<K: Sink, D: Disk>(
 pub fn take_run<D: Disk>(
     session: &mut WriterCore,
     values: &[i128],
-    file: &str,
-    faults: u64,
+    target: Target<'_>,
     disk: &mut D,
 ) -> Result<bool, Ending>
-    requires ready { IsReady file.now session.old (D.view disk.old) }
+    requires ready { IsReady target.file.now session.old (D.view disk.old) }
     requires rows { AreWholeRows (columns_of session.old) values.now }
     requires some { 1 ≤ length values.now }
-    ensures { RunsOn faults file.now session.old session.new values.now (D.view disk.old) (D.view disk.new) result }
+    ensures { RunsOn target.entry.faults target.entry.file.now session.old session.new values.now (D.view disk.old) (D.view disk.new) result }
 {
-    match append_values(session, values, 0, file, disk) {
-        Ok(()) => match put_all(session, file, faults, disk) {
+    match append_values(session, values, 0, target.file, disk) {
+        Ok(()) => match put_all(session, target, disk) {
             Ok(()) => Ok(true),
             Err(ending) => Err(ending),
         },
@@ -221,26 +217,22 @@ pub fn take_run<D: Disk>(
     }
 }
 
-/// Takes the values of a line of the input, whose rows have so many; an empty one closes a batch.
+/// Takes the values of a line of the input; an empty one closes a batch.
 pub fn take_line<K: Sink, D: Disk>(
-    alloc: Global,
-    columns: u64,
     session: &mut WriterCore,
     line: &TextLine,
     number: u64,
-    file: &str,
-    faults: u64,
+    target: Target<'_>,
     text: &mut Vec<u8>,
     sink: &mut K,
     disk: &mut D,
 ) -> Result<(), Ending>
-    requires ready { IsReady file.now session.old (D.view disk.old) }
-    requires columns { columns ≡ columns_of session.old }
-    ensures ready { ReadyUnlessDisk file.now session.new (D.view disk.new) result }
+    requires ready { IsReady target.file.now session.old (D.view disk.old) }
+    ensures ready { ReadyUnlessDisk target.entry.file.now session.new (D.view disk.new) result }
     ensures columns { OnOk result (columns_of session.new ≡ columns_of session.old) }
     ensures spelled { OnOk result ((bytes : List ℕ) → IsLine line.now bytes → HasSome (number_line_of (columns_of session.old) bytes)) }
-    ensures steps { (bytes : List ℕ) → IsLine line.now bytes → StepsOn faults file.now session.old session.new (TakesLine bytes) (LineRefused bytes number session.old) (D.view disk.old) (D.view disk.new) (K.view sink.old) (K.view sink.new) result }
+    ensures steps { (bytes : List ℕ) → IsLine line.now bytes → StepsOn target.entry.faults target.entry.file.now session.old session.new (TakesLine bytes) (LineRefused bytes number session.old) (D.view disk.old) (D.view disk.new) (K.view sink.old) (K.view sink.new) result }
 {
-    let values = line_values(alloc, columns, line, number)?;
-    take_values(session, &values, number, file, faults, text, sink, disk)
+    let values = line_values(target.alloc, session.columns(), line, number)?;
+    take_values(session, &values, number, target, text, sink, disk)
 }

@@ -5,6 +5,10 @@ mod appending;
 mod batching;
 mod creating;
 mod putting;
+mod target;
+mod terms;
 
 pub use appending::append;
 pub use creating::create;
+pub use target::Target;
+pub use terms::Terms;

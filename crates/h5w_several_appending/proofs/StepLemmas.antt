@@ -42,11 +42,6 @@ use Rattle.h5w_several_appending.proofs.StoreLemmas.{broke_batch, broke_before, 
 
 -- ---- A dataset of the session
 
-pub get_some : (ss : List Session) (d : ℕ) → d < length ss → (s : Session) × (slice_get ss d ≡ Some s)
-get_some [] d low = absurd (omega (arith, low))
-get_some (s ∷ ss) zero low = (s, refl)
-get_some (s ∷ ss) (suc d) low = get_some ss d (omega (arith, low))
-
 part_at : (S : Sessions) (ss : List Session) (d : ℕ) (s : Session) → slice_get ss d ≡ Some s → AreParts S ss → IsPart S s
 part_at S [] d s is h = absurd (cc)
 part_at S (x ∷ ss) zero s is h = let first : x ≡ s = cc in subst (λ (y : Session). IsPart S y) first h.0

@@ -9,10 +9,11 @@ ghost use Rattle.h5w_several_appending.specs.Taken.{closed_line, columns_in};
 ghost use Rattle.h5w_several_appending.specs.Tells.{SeveralTells};
 ghost use Rattle.h5w_several_appending.specs.Appending.{ClosesBy, FinishesBy, IsBegun, IsReady, ReadyUnlessDisk, SettlesOn, TakesInputFrom, TakesInputOn};
 
-use crate::batching::{Ending, close_batch, take_line};
+use crate::batching::{Ending, LinePlace, close_batch, take_line};
 use crate::counting::{columns_each, rows_each};
 use crate::opening::{open, release};
 use crate::putting::{close, put_all};
+use h5w_appending::{Target, Terms};
 use h5w_batches::INPUT_LIMIT;
 use h5w_image::Disk;
 use h5w_input::{Intake, Lines, Next};
@@ -24,24 +25,22 @@ use std::alloc::Global;
 
 /// Takes the lines of an input, one after another, to its end, which closes the last batch.
 fn take_lines<S: Source, K: Sink, D: Disk>(
-    alloc: Global,
-    columns: &[u64],
     session: &mut SeveralWriter,
+    columns: &[u64],
     lines: &mut Lines<'_, S>,
-    file: &str,
-    faults: u64,
+    target: Target<'_>,
     text: &mut Vec<u8>,
     sink: &mut K,
     disk: &mut D,
 ) -> Result<(), Ending>
-    requires ready { IsReady file.now session.old (D.view disk.old) }
+    requires ready { IsReady target.file.now session.old (D.view disk.old) }
     requires columns { columns.now ≡ columns_in session.old.parts }
     requires some { (d : ℕ) → 1 ≤ columns_at columns.now d }
     requires sets { 1 ≤ length columns.now }
     requires room { length lines.old.intake.now.held + lines.old.intake.now.more ≡ input_limit }
     requires limit { lines.old.intake.now.limit ≡ input_limit }
-    ensures ready { ReadyUnlessDisk file.now session.new (D.view disk.new) result }
-    ensures takes { TakesInputOn faults file.now session.old session.new (outside (lines_ahead (S.view lines.old.source.now) lines.old.intake.now)) (S.view lines.new.source.now) (D.view disk.old) (D.view disk.new) (K.view sink.old) (K.view sink.new) result }
+    ensures ready { ReadyUnlessDisk target.entry.file.now session.new (D.view disk.new) result }
+    ensures takes { TakesInputOn target.entry.faults target.entry.file.now session.old session.new (outside (lines_ahead (S.view lines.old.source.now) lines.old.intake.now)) (S.view lines.new.source.now) (D.view disk.old) (D.view disk.new) (K.view sink.old) (K.view sink.new) result }
     ensures source { SameSource (S.view lines.old.source.now) (S.view lines.new.source.now) }
     ensures same_reference { lines.new.source.ghost_name ≡ lines.old.source.ghost_name }
     ensures same_intake { lines.new.intake.ghost_name ≡ lines.old.intake.ghost_name }
@@ -52,83 +51,71 @@ fn take_lines<S: Source, K: Sink, D: Disk>(
         match lines.next()? {
             Next::Line(line) => {
                 number += 1;
-                used = take_line(
-                    alloc, columns, used, session, &line, number, file, faults, text, sink, disk,
-                )?;
-            }
-            Next::Last(line) => {
-                take_line(
-                    alloc,
+                let place = LinePlace {
                     columns,
                     used,
-                    session,
-                    &line,
-                    number + 1,
-                    file,
-                    faults,
-                    text,
-                    sink,
-                    disk,
-                )?;
-                return close_batch(session, file, faults, text, sink, disk);
+                    number,
+                };
+                used = take_line(session, place, &line, target, text, sink, disk)?;
             }
-            Next::End => return close_batch(session, file, faults, text, sink, disk),
+            Next::Last(line) => {
+                let place = LinePlace {
+                    columns,
+                    used,
+                    number: number + 1,
+                };
+                take_line(session, place, &line, target, text, sink, disk)?;
+                return close_batch(session, target, text, sink, disk);
+            }
+            Next::End => return close_batch(session, target, text, sink, disk),
         }
     }
 }
 
 /// Appends the lines of the source, one after another.
 fn take_source<S: Source, K: Sink, D: Disk>(
-    alloc: Global,
-    columns: &[u64],
     session: &mut SeveralWriter,
-    file: &str,
-    faults: u64,
+    columns: &[u64],
+    target: Target<'_>,
     text: &mut Vec<u8>,
     source: &mut S,
     sink: &mut K,
     disk: &mut D,
 ) -> Result<(), Ending>
-    requires ready { IsReady file.now session.old (D.view disk.old) }
+    requires ready { IsReady target.file.now session.old (D.view disk.old) }
     requires columns { columns.now ≡ columns_in session.old.parts }
     requires some { (d : ℕ) → 1 ≤ columns_at columns.now d }
     requires sets { 1 ≤ length columns.now }
-    ensures ready { ReadyUnlessDisk file.now session.new (D.view disk.new) result }
-    ensures takes { TakesInputOn faults file.now session.old session.new (S.view source.old) (S.view source.new) (D.view disk.old) (D.view disk.new) (K.view sink.old) (K.view sink.new) result }
+    ensures ready { ReadyUnlessDisk target.entry.file.now session.new (D.view disk.new) result }
+    ensures takes { TakesInputOn target.entry.faults target.entry.file.now session.old session.new (S.view source.old) (S.view source.new) (D.view disk.old) (D.view disk.new) (K.view sink.old) (K.view sink.new) result }
     ensures source { SameSource (S.view source.old) (S.view source.new) }
 {
-    let mut intake = Intake::new(alloc, INPUT_LIMIT);
-    let mut lines = Lines::new(alloc, source, &mut intake);
-    take_lines(
-        alloc, columns, session, &mut lines, file, faults, text, sink, disk,
-    )
+    let mut intake = Intake::new(target.alloc, INPUT_LIMIT);
+    let mut lines = Lines::new(target.alloc, source, &mut intake);
+    take_lines(session, columns, &mut lines, target, text, sink, disk)
 }
 
 /// Puts what is pending, by which an opened file says that it is written, and appends the lines of the source. `text` gets the last line of all.
 fn take_all<S: Source, K: Sink, D: Disk>(
-    alloc: Global,
     session: &mut SeveralWriter,
-    file: &str,
-    faults: u64,
+    target: Target<'_>,
     text: &mut Vec<u8>,
     source: &mut S,
     sink: &mut K,
     disk: &mut D,
 ) -> Result<(), Ending>
-    requires { IsBegun file.now session.old (D.view disk.old) }
-    ensures ready { ReadyUnlessDisk file.now session.new (D.view disk.new) result }
-    ensures takes { TakesInputFrom faults file.now session.old session.new (S.view source.old) (S.view source.new) (D.view disk.old) (D.view disk.new) (K.view sink.old) (K.view sink.new) result }
+    requires { IsBegun target.file.now session.old (D.view disk.old) }
+    ensures ready { ReadyUnlessDisk target.entry.file.now session.new (D.view disk.new) result }
+    ensures takes { TakesInputFrom target.entry.faults target.entry.file.now session.old session.new (S.view source.old) (S.view source.new) (D.view disk.old) (D.view disk.new) (K.view sink.old) (K.view sink.new) result }
     ensures text { OnOk result (text.new.items ≡ closed_line (map rows_of session.new.parts)) }
     ensures source { SameSource (S.view source.old) (S.view source.new) }
 {
     let columns = columns_each(session);
-    put_all(session, file, faults, disk)?;
+    put_all(session, target, disk)?;
     take_source(
-        alloc,
-        columns.as_slice(),
         session,
-        file,
-        faults,
+        columns.as_slice(),
+        target,
         text,
         source,
         sink,
@@ -145,37 +132,35 @@ fn take_all<S: Source, K: Sink, D: Disk>(
 /// Closes the session, and puts its last piece into the file.
 fn shut<D: Disk>(
     session: &mut SeveralWriter,
-    file: &str,
-    faults: u64,
+    target: Target<'_>,
     disk: &mut D,
 ) -> Result<(), Ending>
-    requires { IsReady file.now session.old (D.view disk.old) }
-    ensures { ClosesBy faults file.now session.old (D.view disk.old) (D.view disk.new) result }
+    requires { IsReady target.file.now session.old (D.view disk.old) }
+    ensures { ClosesBy target.entry.faults target.entry.file.now session.old (D.view disk.old) (D.view disk.new) result }
 {
     close(session);
-    put_all(session, file, faults, disk)
+    put_all(session, target, disk)
 }
 
 /// Closes the session behind what was taken of the input, unless the disk failed.
 fn settle<D: Disk>(
     taken: Result<(), Ending>,
     session: &mut SeveralWriter,
-    file: &str,
-    faults: u64,
+    target: Target<'_>,
     disk: &mut D,
 ) -> Result<(), Ending>
-    requires { ReadyUnlessDisk file.now session.old (D.view disk.old) taken }
+    requires { ReadyUnlessDisk target.file.now session.old (D.view disk.old) taken }
     ensures taken { OnOk result (taken ≡ Ok tt) }
-    ensures settles { SettlesOn faults file.now session.old (D.view disk.old) (D.view disk.new) taken result }
+    ensures settles { SettlesOn target.entry.faults target.entry.file.now session.old (D.view disk.old) (D.view disk.new) taken result }
 {
     match taken {
-        Ok(()) => shut(session, file, faults, disk),
-        Err(Ending::Refused(error)) => match shut(session, file, faults, disk) {
+        Ok(()) => shut(session, target, disk),
+        Err(Ending::Refused(error)) => match shut(session, target, disk) {
             Ok(()) => Err(Ending::Refused(error)),
             Err(ending) => Err(ending),
         },
         Err(Ending::Disk) => Err(Ending::Disk),
-        Err(Ending::Sink) => match shut(session, file, faults, disk) {
+        Err(Ending::Sink) => match shut(session, target, disk) {
             Ok(()) => Err(Ending::Sink),
             Err(_) => Err(Ending::Sink),
         },
@@ -185,12 +170,8 @@ fn settle<D: Disk>(
 /// Begins over the file, appends the lines of the source, and closes the session. `text` gets the last line of all.
 fn append_all<S: Source, K: Sink, D: Disk>(
     alloc: Global,
-    by: Beginning,
-    file: &str,
+    terms: Terms<'_>,
     names: &Names,
-    limit: u64,
-    budget: u64,
-    keeps: bool,
     text: &mut Vec<u8>,
     source: &mut S,
     sink: &mut K,
@@ -199,19 +180,23 @@ fn append_all<S: Source, K: Sink, D: Disk>(
     requires some { 1 ≤ length names.now }
     requires few { length names.now ≤ 8 }
     requires names { All (λ name. length name ≤ 512) names.now }
-    requires low { 1024 ≤ limit }
-    requires high { limit ≤ 2 ^ 40 }
-    requires budget { (1024 ≤ budget) × (budget ≤ 2 ^ 30) }
-    ensures finishes { FinishesBy by file.now names.now limit (S.view source.old) (S.view source.new) (D.view disk.old) (D.view disk.new) (K.view sink.old) (K.view sink.new) text.new.items result }
+    requires low { 1024 ≤ terms.limit }
+    requires high { terms.limit ≤ 2 ^ 40 }
+    requires budget { (1024 ≤ terms.budget) × (terms.budget ≤ 2 ^ 30) }
+    ensures finishes { FinishesBy terms.entry.by terms.entry.file.now names.now terms.entry.limit (S.view source.old) (S.view source.new) (D.view disk.old) (D.view disk.new) (K.view sink.old) (K.view sink.new) text.new.items result }
     ensures source { SameSource (S.view source.old) (S.view source.new) }
 {
-    let faults = disk.faults();
-    let mut session = match open(alloc, by, file, names, limit, budget, keeps, disk) {
+    let target = Target {
+        alloc,
+        file: terms.file,
+        faults: disk.faults(),
+    };
+    let mut session = match open(alloc, terms, names, disk) {
         Ok(session) => session,
         Err(error) => return Err(Ending::Refused(error)),
     };
-    let taken = take_all(alloc, &mut session, file, faults, text, source, sink, disk);
-    let settled = settle(taken, &mut session, file, faults, disk);
+    let taken = take_all(&mut session, target, text, source, sink, disk);
+    let settled = settle(taken, &mut session, target, disk);
     release(session);
     settled
 }
@@ -246,10 +231,15 @@ pub fn append<S: Source, K: Sink, D: Disk>(
     ensures tells { SeveralTells by file.now names.now limit (S.view source.old) (S.view source.new) (D.view disk.old) (D.view disk.new) result (K.view sink.old) (K.view sink.new) }
     ensures source { SameSource (S.view source.old) (S.view source.new) }
 {
+    let terms = Terms {
+        by,
+        file,
+        limit,
+        budget,
+        keeps,
+    };
     let mut text = Vec::new(alloc);
-    match append_all(
-        alloc, by, file, names, limit, budget, keeps, &mut text, source, sink, disk,
-    ) {
+    match append_all(alloc, terms, names, &mut text, source, sink, disk) {
         Ok(()) => say(&text, Status::Done, sink),
         Err(Ending::Refused(error)) => tell(alloc, &error, sink),
         Err(Ending::Disk) => say(b"error disk\n", Status::Disk, sink),

@@ -9,13 +9,24 @@ ghost use Rattle.h5w_several_appending.specs.Appending.{AppendsBy, ClosesOn, Flu
 
 use crate::counting::rows_each;
 use crate::putting::put_all;
+use h5w_appending::Target;
 use h5w_files::DiskImage;
 use h5w_image::Disk;
 use h5w_input::{LineError, TextLine};
 use h5w_several_batches::{BatchError, SetLine, set_line};
 use h5w_several_writer::{AppendError, FlushError, SeveralWriter};
 use h5w_text::{ErrorLine, Sink, write_numbers};
-use std::alloc::Global;
+
+/// Where a line of the input stands.
+#[derive(Clone, Copy)]
+pub struct LinePlace<'c> {
+    /// How many columns each dataset has.
+    pub columns: &'c [u64],
+    /// The dataset in use.
+    pub used: usize,
+    /// The line's number.
+    pub number: u64,
+}
 
 /// Why an append ends before its input does.
 #[derive(Drop)]
@@ -116,19 +127,18 @@ fn flush<D: Disk>(session: &mut SeveralWriter, file: &str, disk: &mut D) -> Resu
 }
 
 /// Closes a batch: flushes the rows that wait, where there are any, puts all their pieces into the file, and then writes how many rows each
-/// dataset has. `text` gets that line before. Nothing is put where the disk has failed more often than `faults` times.
+/// dataset has. `text` gets that line before. Nothing is put where the disk has failed since the beginning.
 pub fn close_batch<K: Sink, D: Disk>(
     session: &mut SeveralWriter,
-    file: &str,
-    faults: u64,
+    target: Target<'_>,
     text: &mut Vec<u8>,
     sink: &mut K,
     disk: &mut D,
 ) -> Result<(), Ending>
-    requires { IsReady file.now session.old (D.view disk.old) }
-    ensures ready { ReadyUnlessDisk file.now session.new (D.view disk.new) result }
+    requires { IsReady target.file.now session.old (D.view disk.old) }
+    ensures ready { ReadyUnlessDisk target.entry.file.now session.new (D.view disk.new) result }
     ensures columns { OnOk result (columns_in session.new.parts ≡ columns_in session.old.parts) }
-    ensures closes { ClosesOn faults file.now session.old session.new (D.view disk.old) (D.view disk.new) (K.view sink.old) (K.view sink.new) result }
+    ensures closes { ClosesOn target.entry.faults target.entry.file.now session.old session.new (D.view disk.old) (D.view disk.new) (K.view sink.old) (K.view sink.new) result }
 {
     text.clear();
     let rows = rows_each(session);
@@ -136,81 +146,65 @@ pub fn close_batch<K: Sink, D: Disk>(
         Ok(()) => {}
         Err(_) => return Err(Ending::Refused(ErrorLine::Memory)),
     }
-    flush(session, file, disk)?;
+    flush(session, target.file, disk)?;
     if session.pending() == 0 {
         return Ok(());
     }
-    put_all(session, file, faults, disk)?;
+    put_all(session, target, disk)?;
     match sink.write(text) {
         Ok(()) => Ok(()),
         Err(_) => Err(Ending::Sink),
     }
 }
 
-/// Appends the values of a line of the input to dataset `used`, of which they are whole rows; no values close a batch.
+/// Appends the values of a line of the input to the dataset in use, of which they are whole rows; no values close a batch.
 fn take_values<K: Sink, D: Disk>(
     session: &mut SeveralWriter,
-    used: usize,
+    place: LinePlace<'_>,
     values: &[i128],
-    number: u64,
-    file: &str,
-    faults: u64,
+    target: Target<'_>,
     text: &mut Vec<u8>,
     sink: &mut K,
     disk: &mut D,
 ) -> Result<(), Ending>
-    requires ready { IsReady file.now session.old (D.view disk.old) }
-    requires inside { used < length session.old.parts }
-    requires rows { AreWholeRows (columns_at (columns_in session.old.parts) used) values.now }
-    ensures ready { ReadyUnlessDisk file.now session.new (D.view disk.new) result }
+    requires ready { IsReady target.file.now session.old (D.view disk.old) }
+    requires inside { place.used < length session.old.parts }
+    requires rows { AreWholeRows (columns_at (columns_in session.old.parts) place.used) values.now }
+    ensures ready { ReadyUnlessDisk target.entry.file.now session.new (D.view disk.new) result }
     ensures columns { OnOk result (columns_in session.new.parts ≡ columns_in session.old.parts) }
-    ensures says { SaysOn faults file.now used number values.now session.old session.new (D.view disk.old) (D.view disk.new) (K.view sink.old) (K.view sink.new) result }
+    ensures says { SaysOn target.entry.faults target.entry.file.now place.entry.used place.entry.number values.now session.old session.new (D.view disk.old) (D.view disk.new) (K.view sink.old) (K.view sink.new) result }
 {
     if values.is_empty() {
-        return close_batch(session, file, faults, text, sink, disk);
+        return close_batch(session, target, text, sink, disk);
     }
-    append_values(session, used, values, number, file, disk)
+    append_values(session, place.used, values, place.number, target.file, disk)
 }
 
-/// Takes a line of the input where dataset `used` is in use. Answers which one is in use behind it.
+/// Takes a line of the input that stands at this place. Answers which dataset is in use behind it.
 pub fn take_line<K: Sink, D: Disk>(
-    alloc: Global,
-    columns: &[u64],
-    used: usize,
     session: &mut SeveralWriter,
+    place: LinePlace<'_>,
     line: &TextLine,
-    number: u64,
-    file: &str,
-    faults: u64,
+    target: Target<'_>,
     text: &mut Vec<u8>,
     sink: &mut K,
     disk: &mut D,
 ) -> Result<usize, Ending>
-    requires ready { IsReady file.now session.old (D.view disk.old) }
-    requires columns { columns.now ≡ columns_in session.old.parts }
-    requires some { (d : ℕ) → 1 ≤ columns_at columns.now d }
-    requires inside { used < length columns.now }
-    ensures ready { ReadyUnlessDisk file.now session.new (D.view disk.new) result }
+    requires ready { IsReady target.file.now session.old (D.view disk.old) }
+    requires columns { place.columns.now ≡ columns_in session.old.parts }
+    requires some { (d : ℕ) → 1 ≤ columns_at place.columns.now d }
+    requires inside { place.used < length place.columns.now }
+    ensures ready { ReadyUnlessDisk target.entry.file.now session.new (D.view disk.new) result }
     ensures columns { OnOk result (columns_in session.new.parts ≡ columns_in session.old.parts) }
-    ensures inside { IfOk result (λ d. d < length columns.now) }
-    ensures spelled { IfOk result (λ d. (bytes : List ℕ) → IsLine line.now bytes → IsSpelled columns.now used bytes d) }
-    ensures lines { (bytes : List ℕ) → IsLine line.now bytes → LinesOn faults file.now columns.now used number bytes session.old session.new (D.view disk.old) (D.view disk.new) (K.view sink.old) (K.view sink.new) result }
+    ensures inside { IfOk result (λ d. d < length place.entry.columns.now) }
+    ensures spelled { IfOk result (λ d. (bytes : List ℕ) → IsLine line.now bytes → IsSpelled place.entry.columns.now place.entry.used bytes d) }
+    ensures lines { (bytes : List ℕ) → IsLine line.now bytes → LinesOn target.entry.faults target.entry.file.now place.entry.columns.now place.entry.used place.entry.number bytes session.old session.new (D.view disk.old) (D.view disk.new) (K.view sink.old) (K.view sink.new) result }
 {
-    match set_line(alloc, columns, used, line, number)? {
+    match set_line(target.alloc, place.columns, place.used, line, place.number)? {
         SetLine::Use(d) => Ok(d),
         SetLine::Numbers(values) => {
-            take_values(
-                session,
-                used,
-                values.as_slice(),
-                number,
-                file,
-                faults,
-                text,
-                sink,
-                disk,
-            )?;
-            Ok(used)
+            take_values(session, place, values.as_slice(), target, text, sink, disk)?;
+            Ok(place.used)
         }
     }
 }

@@ -10,6 +10,7 @@ ghost use Rattle.h5w_several_appending.specs.Puts.{PutsPieces, PutsSome};
 ghost use Rattle.h5w_several_appending.specs.Appending.{PutsBy};
 
 use crate::batching::Ending;
+use h5w_appending::Target;
 use h5w_image::{Disk, Failed};
 use h5w_several_writer::SeveralWriter;
 
@@ -56,24 +57,22 @@ fn put_pending<D: Disk>(session: &mut SeveralWriter, file: &str, disk: &mut D) -
     Ok(())
 }
 
-/// Puts the session's pending pieces into the file. Where the disk fails, or has failed more often than `faults` times, the session is
-/// stopped.
+/// Puts the session's pending pieces into the file. Where the disk fails, or has failed since the beginning, the session is stopped.
 pub fn put_all<D: Disk>(
     session: &mut SeveralWriter,
-    file: &str,
-    faults: u64,
+    target: Target<'_>,
     disk: &mut D,
 ) -> Result<(), Ending>
-    requires there { IsThere (D.view disk.old) file.now }
+    requires there { IsThere (D.view disk.old) target.file.now }
     requires room { length (all_pending session.old.parts) ≤ (D.view disk.old).pieces }
-    requires end { session.old.places.end ≤ (D.view disk.old).end file.now }
-    ensures { PutsBy faults file.now session.old session.new (D.view disk.old) (D.view disk.new) result }
+    requires end { session.old.places.end ≤ (D.view disk.old).end target.file.now }
+    ensures { PutsBy target.entry.faults target.entry.file.now session.old session.new (D.view disk.old) (D.view disk.new) result }
 {
-    if disk.faults() != faults {
+    if disk.faults() != target.faults {
         session.failed();
         return Err(Ending::Disk);
     }
-    match put_pending(session, file, disk) {
+    match put_pending(session, target.file, disk) {
         Ok(()) => Ok(()),
         Err(_) => {
             session.failed();

@@ -21,7 +21,7 @@ returns-in_err-take_run-clause-ahead g c =
     let x = lines_ahead s i in
     let z = lines_ahead s (record i { held = drop c.values_ahead-bytes.result i.held }) in
     let taken = subst (λ (vs : List ℤ). TakesSingles vs x z) (sym is) singles in
-    rw e (ahead_broke (g.D.Disk.view c.args.disk.now) (g.D.Disk.view c.take_run.new.disk) x x z c.args.faults c.args.file.now c.args.session.now c.take_run.new.session values c.in_err-take_run.field-0.0 one some taken c.in_err-take_run.ensures)
+    rw e (ahead_broke (g.D.Disk.view c.args.disk.now) (g.D.Disk.view c.take_run.new.disk) x x z c.args.target.faults c.args.target.file.now c.args.session.now c.take_run.new.session values c.in_err-take_run.field-0.0 one some taken c.in_err-take_run.ensures)
 
 pub returns-then-branch-clause-ahead : goal.returns-then-branch-clause-ahead
 returns-then-branch-clause-ahead g c =
@@ -41,8 +41,8 @@ returns-then-branch-clause-ahead g c =
     let same : z ≡ y = rw (c.pass.ensures.source, c.pass.ensures.intake) refl in
     let count : c.len-then-branch.result ≡ length values = first_of (search rules, grind (arith, common_steps)) in
     let whole = rw c.if-branch.true at c.in_ok-take_run.ensures in
-    ahead_whole c.args.faults c.args.file.now c.args.session.now c.take_run.new.session values c.len-then-branch.result count one some (subst (λ (l : LinesAhead). TakesSingles values x l) same taken) whole
+    ahead_whole c.args.target.faults c.args.target.file.now c.args.session.now c.take_run.new.session values c.len-then-branch.result count one some (subst (λ (l : LinesAhead). TakesSingles values x l) same taken) whole
 
 pub returns-clause-ahead : goal.returns-clause-ahead
 returns-clause-ahead g c =
-    ahead_none _ c.args.faults c.args.file.now c.args.session.now c.take_run.new.session c.deref.result.now c.requires.ready (rw c.if-branch.false at c.in_ok-take_run.ensures)
+    ahead_none _ c.args.target.faults c.args.target.file.now c.args.session.now c.take_run.new.session c.deref.result.now c.requires.ready (rw c.if-branch.false at c.in_ok-take_run.ensures)

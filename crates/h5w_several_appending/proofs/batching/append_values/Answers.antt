@@ -1,10 +1,11 @@
 use Rattle.std.proofs.Common.{◌≡◌, ℤ, refl, rules, subst, sym, to_z, of_z}
 use Rattle.std.specs.Int.{w128}
+use Rattle.h5w_bt_nodes.proofs.Places.{there_is}
 use Rattle.h5w_text.specs.declared.error.ErrorLine.TheVariants as errors
 use Rattle.h5w_several_writer_laws.specs.Sessions.{AreSessions}
 use Rattle.h5w_appending.proofs.StoreLemmas.{reference_of, unput_of}
 use Rattle.h5w_several_appending.specs.Appending.{ValuesRefused, no_memory, out_of_range, too_many}
-use Rattle.h5w_several_appending.proofs.StepLemmas.{appended_ok, get_some, never_busy, never_stopped, out_of_range_of, rows_at, too_many_of}
+use Rattle.h5w_several_appending.proofs.StepLemmas.{appended_ok, never_busy, never_stopped, out_of_range_of, rows_at, too_many_of}
 use Rattle.h5w_several_appending.proofs.batching.append_values.Goals as goal
 
 pub returns-in-Ok-clause-unput : goal.returns-in-Ok-clause-unput
@@ -50,7 +51,7 @@ returns-in-Ok-clause-appends g c =
 pub returns-in-Err-OutOfRange-clause-appends : goal.returns-in-Err-OutOfRange-clause-appends
 returns-in-Err-OutOfRange-clause-appends g c =
     let h = c.in-Err-OutOfRange.ensures in
-    let got = get_some c.args.session.now.parts c.args.d c.requires.inside in
+    let got = there_is c.args.session.now.parts c.args.d c.requires.inside in
     let sessions = subst AreSessions h.kept h.sessions in
     let value : to_z w128 (of_z w128 c.in-Err-OutOfRange.value) ≡ c.in-Err-OutOfRange.value = search rules in
     let cause = out_of_range_of c.args.file.now c.args.session.now c.args.d got.0 c.args.values.now c.in-Err-OutOfRange.index c.in-Err-OutOfRange.value c.requires.ready sessions got.1 (rw c.in-Err-OutOfRange.field-0-is at (h.causes got.0 got.1)) in
@@ -59,7 +60,7 @@ returns-in-Err-OutOfRange-clause-appends g c =
 pub returns-in-Err-Chunks-clause-appends : goal.returns-in-Err-Chunks-clause-appends
 returns-in-Err-Chunks-clause-appends g c =
     let h = c.in-Err-Chunks.ensures in
-    let got = get_some c.args.session.now.parts c.args.d c.requires.inside in
+    let got = there_is c.args.session.now.parts c.args.d c.requires.inside in
     (h.kept, too_many got.0 c.in-Err-Chunks.chunks c.in-Err-Chunks.limit got.1 (too_many_of c.args.file.now c.args.session.now got.0 c.args.values.now c.in-Err-Chunks.chunks c.in-Err-Chunks.limit c.requires.ready (rw c.in-Err-Chunks.field-0-is at (h.causes got.0 got.1))))
 
 pub returns-in-Err-OutOfMemory-clause-appends : goal.returns-in-Err-OutOfMemory-clause-appends
@@ -68,11 +69,11 @@ returns-in-Err-OutOfMemory-clause-appends g c = (c.in-Err-OutOfMemory.ensures.ke
 pub unreachable-requires : goal.unreachable-requires
 unreachable-requires g c =
     let h = c.in-Err-Stopped.ensures in
-    let got = get_some c.args.session.now.parts c.args.d c.requires.inside in
+    let got = there_is c.args.session.now.parts c.args.d c.requires.inside in
     never_stopped c.args.file.now c.args.session.now c.args.d got.0 c.args.values.now c.requires.ready (subst AreSessions h.kept h.sessions) got.1 (rw c.in-Err-Stopped.field-0-is at (h.causes got.0 got.1))
 
 pub unreachable-requires-in-Err-Busy : goal.unreachable-requires-in-Err-Busy
 unreachable-requires-in-Err-Busy g c =
     let h = c.in-Err-Busy.ensures in
-    let got = get_some c.args.session.now.parts c.args.d c.requires.inside in
+    let got = there_is c.args.session.now.parts c.args.d c.requires.inside in
     never_busy c.args.file.now c.args.session.now c.args.d c.in-Err-Busy.field-0-0 got.0 c.args.values.now c.requires.ready (subst AreSessions h.kept h.sessions) got.1 (rw c.in-Err-Busy.field-0-is at (h.causes got.0 got.1))
