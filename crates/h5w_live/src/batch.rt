@@ -21,8 +21,8 @@ use crate::writing::{Halt, show, show_early};
 use h5w_image::Gate;
 use h5w_model::FlushLine;
 use h5w_pen::Pen;
-use h5w_writer::{AppendError, FlushError, WriterCore};
 use h5w_shared::SharedImage;
+use h5w_writer::{AppendError, FlushError, WriterCore};
 use std::sync::Wait;
 
 /// Appends a batch behind others that were flushed.

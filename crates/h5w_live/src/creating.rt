@@ -17,8 +17,8 @@ use h5w_model::OutOfMemory;
 use h5w_options::Options;
 use h5w_pen::Pen;
 use h5w_replica::Mirror;
-use h5w_writer::WriterCore;
 use h5w_shared::{Note, SharedImage};
+use h5w_writer::WriterCore;
 use std::alloc::Global;
 use std::sync::Wait;
 

@@ -10,7 +10,7 @@ use h5w_replica::{Follow, FollowError};
 use h5w_shared::{Note, SharedImage};
 use std::sync::Wait;
 use std::sync::atomic::{AtomicBool, Ordering};
-use std::thread;
+use std::{hint, thread};
 
 /// A second image, and the end of the mirror that writes it.
 #[derive(Drop)]
@@ -49,6 +49,29 @@ pub fn caught_up<R: Wait>(
     }
 }
 
+/// How often a follower looks in vain for a batch before it lets another thread run.
+const LOOKS: u32 = 1_000;
+
+/// So many pauses of the processor lie between a batch and the look for the next one, which has more pieces for it.
+const BREATH: u32 = 2_000;
+
+/// Lets some time pass, in which the writer is not disturbed.
+fn breathe() {
+    for _ in 0..BREATH {
+        hint::spin_loop();
+    }
+}
+
+/// A follower that has looked so often in vain waits for its next look.
+fn pause(looks: u32) -> u32 {
+    if looks < LOOKS {
+        hint::spin_loop();
+        return looks + 1;
+    }
+    thread::yield_now();
+    0
+}
+
 /// Follows the first image until the writer is over and nothing more comes, or a batch begins past the second image. The follower comes to its
 /// turn after each batch, by how many pieces the second image has then.
 pub fn follow_all<R: Wait, G: Gate>(
@@ -65,6 +88,7 @@ pub fn follow_all<R: Wait, G: Gate>(
     ensures first { result.seat.image ≡ first.now }
     ensures second { result.second.image ≡ second.now }
 {
+    let mut looks = 0u32;
     for _ in rt.forever() {
         let last = over.load(Ordering::SeqCst);
         let taken = match follow.step(rt, first, second) {
@@ -75,10 +99,11 @@ pub fn follow_all<R: Wait, G: Gate>(
         };
         if taken > 0 {
             gate.turn(actor, follow.seen());
+            breathe();
         } else if last {
             return follow;
         } else {
-            thread::yield_now();
+            looks = pause(looks);
         }
     }
     unreachable!()

@@ -23,8 +23,8 @@ use h5w_image::Journal;
 use h5w_live_reading::{AllEnded, Cut};
 use h5w_model::{FlushLine, PollLine};
 use h5w_pen::Pen;
-use h5w_writer::WriterCore;
 use h5w_shared::{Note, SharedImage};
+use h5w_writer::WriterCore;
 use std::sync::Wait;
 
 /// The error of a batch that was not flushed, by its number.

@@ -5,8 +5,8 @@ use crate::following::Second;
 use crate::threads::Beside;
 use h5w_live_reading::{AllEnded, Cut};
 use h5w_pen::Pen;
-use h5w_writer::WriterCore;
 use h5w_shared::SharedImage;
+use h5w_writer::WriterCore;
 
 /// Lets a session go.
 pub fn release_session(_session: WriterCore) {}

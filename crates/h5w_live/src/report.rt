@@ -4,8 +4,8 @@ ghost use Rattle.h5w_live.specs.Reports.{TellsNone};
 use crate::lists::{FlushLines, PollLines};
 use h5w_image::Journal;
 use h5w_model::OutOfMemory;
-use h5w_writer::Full;
 use h5w_shared::Worn;
+use h5w_writer::Full;
 use std::fmt;
 use thiserror::Error;
 

@@ -13,8 +13,8 @@ ghost use Rattle.h5w_space.specs.declared.Full.{Full};
 ghost use Rattle.h5w_live.specs.Writing.{HasRoom, StaysSeated};
 
 use h5w_pen::{Pen, Penned};
-use h5w_writer::{AppendError, FlushError, WriterCore};
 use h5w_shared::SharedImage;
+use h5w_writer::{AppendError, FlushError, WriterCore};
 use std::sync::Wait;
 
 /// Appends values; what is written of them early is pending then. Failed: the seat was shown the ticket word at 2^63, and counts it.

@@ -20,8 +20,8 @@ use h5w_live_reading::{AllEnded, Cut, read_all};
 use h5w_model::{FlushLine, OutOfMemory, Values};
 use h5w_pen::Pen;
 use h5w_replica::Follow;
-use h5w_writer::WriterCore;
 use h5w_shared::{ReaderSeat, SharedImage};
+use h5w_writer::WriterCore;
 use std::alloc::Global;
 use std::sync::Wait;
 use std::sync::atomic::{AtomicBool, Ordering};
@@ -43,7 +43,7 @@ pub struct Beside {
     pub ended: Result<AllEnded, Cut>,
 }
 
-/// Puts all batches. Then the writer is over.
+/// Puts all batches, and sends on what no other end awaited. Then the writer is over.
 fn write<R: Wait, G: Gate>(
     rt: &R,
     alloc: Global,
@@ -60,6 +60,7 @@ fn write<R: Wait, G: Gate>(
     ensures { (f : CreatedFile) (most : ℕ) → HasFlushed f most [] session seat [] → HasPutAll f most batches.now image.now result }
 {
     let lines = put_all(rt, alloc, image, &mut seat, &mut session, batches, gate);
+    seat.send(image);
     over.store(true, Ordering::SeqCst);
     Written {
         seat,

@@ -13,8 +13,8 @@ use crate::writing::{Halt, show};
 use h5w_image::{Failed, Gate, OpenGate};
 use h5w_model::{FlushLine, Values};
 use h5w_pen::Pen;
-use h5w_writer::WriterCore;
 use h5w_shared::SharedImage;
+use h5w_writer::WriterCore;
 use std::alloc::Global;
 use std::sync::Wait;
 

@@ -12,8 +12,8 @@ ghost use Rattle.h5w_reader_laws.specs.Showing.{showing};
 
 use h5w_image::{Failed, Gate, OpenGate};
 use h5w_pen::Pen;
-use h5w_writer::{Full, WriterCore};
 use h5w_shared::SharedImage;
+use h5w_writer::{Full, WriterCore};
 use std::sync::Wait;
 
 /// Why a batch was not flushed.
@@ -30,7 +30,7 @@ pub enum Halt {
     OutOfMemory,
 }
 
-/// All pending pieces become visible, one after another; where a second image follows, they are sent to it then. Before the last of them the
+/// All pending pieces become visible, one after another; where a second image follows, they are offered to it then. Before the last of them the
 /// writer comes to its turn of this number. Where the seat fails, the session is stopped.
 pub fn show<R: Wait, G: Gate>(
     rt: &R,
@@ -63,7 +63,7 @@ pub fn show<R: Wait, G: Gate>(
             }
         }
     }
-    seat.send(image);
+    seat.offer(image);
     Ok(())
 }
 

@@ -168,6 +168,17 @@ fn send_fed(first: &SharedImage, feed: &mut Feed)
     let _ = feed.send(first);
 }
 
+/// Sends on what is unsent, where the other end awaits it.
+fn offer_fed(first: &SharedImage, feed: &mut Feed)
+    requires { (fed_seat feed.old).image ≡ first.now }
+    ensures same { fed_seat feed.new ≡ fed_seat feed.old }
+    ensures short { AreShort (fed_seat feed.old).seen → AreShort (fed_seat feed.new).seen }
+{
+    if feed.is_awaited() {
+        send_fed(first, feed);
+    }
+}
+
 /// A copy of all pieces through a seat, and a note of them.
 fn journal_alone<R: Wait>(
     rt: &R,
@@ -327,6 +338,18 @@ impl Pen {
         match &mut self.hand {
             Hand::Alone(_) => {}
             Hand::Fed(feed) => send_fed(image, feed),
+        }
+    }
+
+    /// The same where all that was sent before came to the other image's end; else what was written since goes with what comes later. Waits for
+    /// nobody.
+    pub fn offer(&mut self, image: &SharedImage)
+        requires { self.old.image ≡ image.now }
+        ensures same { self.new ≡ self.old }
+    {
+        match &mut self.hand {
+            Hand::Alone(_) => {}
+            Hand::Fed(feed) => offer_fed(image, feed),
         }
     }
 

@@ -1,10 +1,11 @@
 -- Batches end to end, and what a feed keeps as they go into the ring.
 use Rattle.std.proofs.Common.{◌≡◌, ◌⊎◌, ℕ, ◌+◌, ◌-◌, ◌≤◌, List, [], ◌∷◌, ◌++◌, length, Some, None, Ok, Err, sym, refl, ap, ◌∙◌, subst, arith, append_assoc, append-nil, length-append, inl, inr}
 use Rattle.std.specs.Prelude.{IfSome, OnOk, Option, Result}
-use Rattle.std.proofs.lemmas.List.Elements.{All-push}
+use Rattle.std.proofs.lemmas.List.{drop_at}
+use Rattle.std.proofs.lemmas.List.Elements.{All-drop, All-push}
 use Rattle.h5w_model.specs.declared.piece.Write.{Write}
 use Rattle.h5w_shared.specs.Seats.{ImageId, SeatView}
-use Rattle.h5w_replica.specs.Batches.{AreShort, BatchView, GoesOn, Leads, batches_in, end_to_end, pieces_back}
+use Rattle.h5w_replica.specs.Batches.{AreShort, BatchView, GoesOn, IsPartOf, Leads, batches_in, end_to_end, pieces_back}
 use Rattle.h5w_replica.specs.Feeds.{FeedView, HasTaken, IsFeed, fed_seat, with_piece}
 
 -- one batch more
@@ -106,6 +107,19 @@ goes seat items back x unsent n m h none seen count first all image some =
       first_is = omega (arith, whole, both, seen, count, first);
       some = omega (arith, some, ap length all);
     }
+
+-- pieces at the end of a list of short ones are short
+pub short_behind : (xs ys zs : List Write) → zs ≡ xs ++ ys → AreShort zs → AreShort ys
+short_behind xs ys zs is h = subst AreShort (drop_at xs ys (length xs) refl) (All-drop (λ (w : Write). length w.piece ≤ 512) (length xs) (xs ++ ys) (subst AreShort is h))
+
+-- the last pieces of a list are a part of it
+pub last_part : (xs ys seen pieces : List Write) (n m : ℕ) → seen ≡ xs ++ ys → pieces ≡ ys → n ≡ length (xs ++ ys) → m ≡ length ys → IsPartOf seen (record { first = n - m; pieces = pieces })
+last_part xs ys seen pieces n m is all whole count = record {
+  before = xs;
+  after = [];
+  seen_is = is ∙ ap (λ (l : List Write). xs ++ l) (sym all ∙ sym (append-nil pieces));
+  first_is = omega (arith, whole, count, length-append xs ys);
+}
 
 -- ---- Pieces
 

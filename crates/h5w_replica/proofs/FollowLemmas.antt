@@ -68,11 +68,8 @@ holds_all all has p part m begins =
 -- ---- A step
 
 -- what lacks of a portion, in words of its parts
-pub lacks : (p : PortionView) (first have : ℕ) (pieces items rest has : List Write) → rest ≡ drop (have - first) items → have ≡ length has → items ≡ pieces → record { first = first; pieces = pieces } ≡ p → rest ≡ lacking (length has) p
-lacks p first have pieces items rest has is count same view =
-    is
-    ∙ (ap (λ k. drop (k - first) items) count
-    ∙ (ap (λ (l : List Write). drop (length has - first) l) same ∙ ap (λ (q : PortionView). lacking (length has) q) view))
+pub lacks : (p : PortionView) (first have : ℕ) (pieces has : List Write) → have ≡ length has → record { first = first; pieces = pieces } ≡ p → drop (have - first) pieces ≡ lacking (length has) p
+lacks p first have pieces has count view = ap (λ k. drop (k - first) pieces) count ∙ ap (λ (q : PortionView). lacking (length has) q) view
 
 -- the batch was taken on, and none is kept: m is the follower as it was before it wrote
 pub record Began (f m : FollowView) (p : PortionView) : Type 0 where

@@ -78,6 +78,6 @@ pub record IsFeed (seat : SeatView) (sent : List BatchView) (back : Option Batch
   pub short : AreShort seat.seen
 
 -- the room for pieces is there in the image and among the unsent
-pub record HasBothRooms (room pieces len capacity : ℕ) : Type 0 where
+pub record HasBothRooms (room pieces reserved : ℕ) : Type 0 where
   pub image : room ≤ pieces
-  pub unsent : len + room ≤ capacity
+  pub unsent : room ≤ reserved

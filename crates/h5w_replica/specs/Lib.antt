@@ -6,6 +6,7 @@ pub use Rattle.h5w_shared.specs.Seats
 pub use Rattle.h5w_shared.specs.Threads
 pub use Rattle.h5w_shared.specs.Turns
 pub mod Batches
+pub mod Waiting
 pub mod Rings
 pub mod Feeds
 pub mod Mirrors

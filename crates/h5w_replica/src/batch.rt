@@ -1,21 +1,23 @@
-use h5w_model::Write;
+use crate::pieces::Pieces;
 use h5w_shared::Note;
 use rtrb::Protocol;
 use std::marker::Model;
 
-/// Pieces, and how many others stand before them in their list.
+/// Pieces, one behind another, and how many others stand before them in their list.
 #[derive(Drop)]
 pub struct Portion {
     pub(crate) first: u64,
-    pub(crate) pieces: Vec<Write>,
+    pub(crate) pieces: Pieces,
 }
 
 impl Model for Portion {
-    ghost use Rattle.h5w_replica.specs.Batches.{PortionView};
+    ghost use Rattle.h5w_replica.specs.Batches.{AreShort, PortionView};
 
     ghost Value = { PortionView };
 
-    ghost view = { λ p. record { first = p.first; pieces = p.pieces.items } };
+    ghost view = { λ p. record { first = p.first; pieces = p.pieces.writes } };
+
+    ghost invariant = { λ p. AreShort p.pieces.writes };
 }
 
 /// A portion of the writer's list, and a note of what the writer's seat had seen then.

@@ -10,6 +10,7 @@ ghost use Rattle.h5w_replica.specs.Rings.{ring_of};
 ghost use Rattle.rtrb.specs.Ring.{SameProducer, known_free, sent};
 
 use crate::batch::{Batch, InOrder, Portion};
+use crate::pieces::Pieces;
 use crate::refusal::FollowError;
 use h5w_image::{Failed, ImageError, Journal, PieceRead, PieceWrite};
 use h5w_model::{OutOfMemory, Piece, Write};
@@ -26,19 +27,17 @@ pub struct Feed {
     alloc: Global,
     seat: WriterSeat,
     pub(crate) producer: Producer<Batch, Global, InOrder>,
-    /// Lists of pieces that were written on the second image, whose memory is for others.
-    spares: Consumer<Vec<Write>>,
+    /// Lists whose pieces were written on the second image: their memory is for others.
+    spares: Consumer<Pieces>,
     /// The batch that the ring gave back.
     back: Option<Batch>,
     /// The pieces that no batch has yet.
-    unsent: Vec<Write>,
+    unsent: Pieces,
     /// So many pieces more can be written without memory.
     room: u64,
 }
 
 impl Model for Feed {
-    ghost use Rattle.std.specs.Prelude.{vec_len};
-    ghost use Rattle.std.specs.Vec.{vec_capacity};
     ghost use Rattle.rtrb.specs.Ring.{known_free, sent};
     ghost use Rattle.h5w_replica.specs.Batches.{batches_in};
     ghost use Rattle.h5w_replica.specs.Feeds.{FeedView, HasBothRooms, IsFeed};
@@ -46,9 +45,9 @@ impl Model for Feed {
 
     ghost Value = { FeedView };
 
-    ghost view = { λ f. record { seat = f.seat; took = batches_in (sent f.producer); back = f.back; unsent = f.unsent.items; room = f.room; free = known_free f.producer; ring = ring_of f.producer } };
+    ghost view = { λ f. record { seat = f.seat; took = batches_in (sent f.producer); back = f.back; unsent = f.unsent.writes; room = f.room; free = known_free f.producer; ring = ring_of f.producer } };
 
-    ghost invariant = { λ f. IsFeed f.seat (sent f.producer) f.back f.unsent.items × HasBothRooms f.room f.seat.pieces (vec_len f.unsent) (vec_capacity f.unsent) };
+    ghost invariant = { λ f. IsFeed f.seat (sent f.producer) f.back f.unsent.writes × HasBothRooms f.room f.seat.pieces f.unsent.room };
 }
 
 /// Puts a batch into the ring. What the ring gives back is the answer.
@@ -65,11 +64,11 @@ fn offer(producer: &mut Producer<Batch, Global, InOrder>, batch: Batch) -> Optio
 }
 
 /// A list without pieces, with memory that was used before, where there is such.
-fn empty(spares: &mut Consumer<Vec<Write>>, alloc: Global) -> Vec<Write>
-    ensures { result.items ≡ [] }
+fn empty(spares: &mut Consumer<Pieces>, alloc: Global) -> Pieces
+    ensures { result.writes ≡ [] }
 {
     let Ok(mut pieces) = spares.pop() else {
-        return Vec::new(alloc);
+        return Pieces::new(alloc);
     };
     pieces.clear();
     pieces
@@ -81,7 +80,7 @@ impl Feed {
         alloc: Global,
         seat: WriterSeat,
         producer: Producer<Batch, Global, InOrder>,
-        spares: Consumer<Vec<Write>>,
+        spares: Consumer<Pieces>,
     ) -> Feed
         requires new { seat.seen ≡ [] }
         requires leads { Leads seat.image (sent producer) }
@@ -97,7 +96,7 @@ impl Feed {
             producer,
             spares,
             back: None,
-            unsent: Vec::new(alloc),
+            unsent: Pieces::new(alloc),
             room: 0,
         }
     }
@@ -172,9 +171,7 @@ impl Feed {
         ensures memory { result ≡ Err ImageError.OutOfMemory → self.new ≡ self.old }
         ensures fed { IsFed self.new }
     {
-        if self.unsent.reserve(pieces as usize).is_err() {
-            return Err(ImageError::OutOfMemory);
-        }
+        self.unsent.reserve(pieces)?;
         Writing {
             rt,
             image: first,
@@ -200,19 +197,26 @@ impl Feed {
         ensures refused { OnErr result (FailedFeed self.old self.new) }
         ensures fed { IsFed self.new }
     {
-        let copy = Write {
-            at: w.at,
-            piece: Piece::of(w.piece.as_slice()),
-        };
+        // Its bound keeps all pieces short.
+        let _len = w.piece.len();
         Writing {
             rt,
             image: first,
             seat: &mut self.seat,
         }
         .write(w)?;
-        self.unsent.push_reserved(copy);
+        self.unsent.push(w);
         self.room -= 1;
         Ok(())
+    }
+
+    /// Whether all batches came out of the ring, as far as its places tell. Waits for nobody.
+    pub fn is_awaited(&mut self) -> bool
+        ensures same { self.new ≡ record self.old { free = self.new.free } }
+        ensures free { self.old.free ≤ self.new.free }
+        ensures fed { IsFed self.new }
+    {
+        self.producer.slots() == self.producer.capacity()
     }
 
     /// What the ring gave back goes in again. True where nothing is given back now.
@@ -241,12 +245,12 @@ impl Feed {
         ensures refused { OnErr result ((self.new.back ≡ None) × (self.new.unsent ≡ self.old.unsent)) }
         ensures fed { IsFed self.new }
     {
-        if !self.resend() || self.unsent.is_empty() {
+        if !self.resend() || self.unsent.len() == 0 {
             return Ok(());
         }
-        let before = self.seat.seen() - self.unsent.len() as u64;
+        let before = self.seat.seen() - self.unsent.len();
         let mut pieces = empty(&mut self.spares, self.alloc);
-        pieces.reserve(self.room as usize)?;
+        pieces.reserve(self.room)?;
         mem::swap(&mut self.unsent, &mut pieces);
         let note = self.seat.note(first);
         let batch = Batch {

@@ -12,18 +12,15 @@ ghost use Rattle.rtrb.specs.Ring.{known_items, received};
 
 use crate::batch::{Batch, InOrder, Portion};
 use crate::feed::Feed;
-use crate::putting::{put_all, put_from};
+use crate::pieces::Pieces;
+use crate::putting::{put_from, put_pieces};
 use crate::refusal::FollowError;
 use h5w_image::Journal;
-use h5w_model::Write;
 use h5w_shared::{Note, ReaderSeat, SharedImage, Worn, WriterSeat};
 use rtrb::{Consumer, Producer};
 use std::alloc::Global;
 use std::marker::Model;
 use std::sync::Wait;
-
-/// The memory of so many pieces at most is for others.
-const FEW: u64 = 64;
 
 /// The end of a mirror that writes the second image, piece by piece as the first was written.
 #[derive(Drop)]
@@ -33,8 +30,8 @@ pub struct Follow {
     /// Of the second.
     second: WriterSeat,
     consumer: Consumer<Batch, Global, InOrder>,
-    /// Lists of pieces that were written on the second image, whose memory is for others.
-    spares: Producer<Vec<Write>>,
+    /// Lists whose pieces were written on the second image: their memory is for others.
+    spares: Producer<Pieces>,
     /// What waits for the next step. Its note was met.
     kept: Option<Portion>,
 }
@@ -52,21 +49,12 @@ impl Model for Follow {
     ghost invariant = { λ f. IsFollow f.seat f.second (received f.consumer) f.kept };
 }
 
-/// The pieces behind so many.
-fn behind(pieces: &[Write], skip: u64) -> &[Write]
-    ensures { result.now ≡ drop skip pieces.now }
-{
-    &pieces[pieces.len().min(skip as usize)..]
-}
-
 /// The memory of a portion is for others. The answer is how many pieces it had.
-fn spare(spares: &mut Producer<Vec<Write>>, portion: Portion) -> u64
+fn spare(spares: &mut Producer<Pieces>, portion: Portion) -> u64
     ensures { result ≡ length portion.pieces }
 {
-    let count = portion.pieces.len() as u64;
-    if count <= FEW {
-        let _full = spares.push(portion.pieces);
-    }
+    let count = portion.pieces.len();
+    let _full = spares.push(portion.pieces);
     count
 }
 
@@ -76,7 +64,7 @@ impl Follow {
         seat: ReaderSeat,
         second: WriterSeat,
         consumer: Consumer<Batch, Global, InOrder>,
-        spares: Producer<Vec<Write>>,
+        spares: Producer<Pieces>,
     ) -> Follow
         requires new { second.seen ≡ [] }
         requires leads { Leads seat.image (received consumer) }
@@ -181,8 +169,8 @@ impl Follow {
                 have,
             });
         }
-        let rest = behind(&portion.pieces, have - portion.first);
-        match put_all(rt, second, &mut self.second, rest) {
+        let skip = have - portion.first;
+        match put_pieces(rt, second, &mut self.second, &portion.pieces, skip) {
             Ok(()) => Ok(spare(&mut self.spares, portion)),
             Err(error) => {
                 self.kept = Some(portion);

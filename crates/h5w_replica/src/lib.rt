@@ -7,6 +7,7 @@ mod feeding;
 mod follow;
 mod laws;
 mod mirror;
+mod pieces;
 mod putting;
 mod refusal;
 

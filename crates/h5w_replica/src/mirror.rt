@@ -6,6 +6,7 @@ ghost use Rattle.h5w_replica.specs.Mirrors.{Mirrored};
 use crate::batch::{Batch, InOrder, Portion};
 use crate::feed::Feed;
 use crate::follow::Follow;
+use crate::pieces::Pieces;
 use h5w_image::MemImage;
 use h5w_model::OutOfMemory;
 use h5w_shared::{ReaderSeat, SharedImage};
@@ -47,7 +48,7 @@ impl Mirror {
         producer.push_reserved(Batch {
             portion: Portion {
                 first: 0,
-                pieces: Vec::new(alloc),
+                pieces: Pieces::new(alloc),
             },
             note,
         });

@@ -3,6 +3,7 @@ ghost use Rattle.std.specs.Prelude.{◌≡◌, ◌∷◌, [], drop, IfErr, OnOk}
 ghost use Rattle.h5w_replica.specs.Batches.{AreShort};
 ghost use Rattle.h5w_replica.specs.Putting.{HasPut, HasPutSome};
 
+use crate::pieces::Pieces;
 use h5w_image::{ImageError, Journal, PieceWrite};
 use h5w_model::{Piece, Write};
 use h5w_shared::{SharedImage, WriterSeat, Writing};
@@ -28,19 +29,27 @@ fn put<R: Wait>(
     Ok(())
 }
 
-/// Writes pieces, one behind another.
-pub fn put_all<R: Wait>(
+/// Writes the pieces of a list from this one on.
+pub fn put_pieces<R: Wait>(
     rt: &R,
     image: &SharedImage,
     seat: &mut WriterSeat,
-    pieces: &[Write],
+    pieces: &Pieces,
+    from: u64,
 ) -> Result<(), ImageError>
-    requires { seat.old.image ≡ image.now }
-    ensures put { OnOk result (HasPut pieces.now seat.old seat.new) }
-    ensures some { IfErr result (λ e. HasPutSome pieces.now e seat.old seat.new) }
+    requires image { seat.old.image ≡ image.now }
+    requires short { AreShort pieces.now.writes }
+    ensures put { OnOk result (HasPut (drop from pieces.now.writes) seat.old seat.new) }
+    ensures some { IfErr result (λ e. HasPutSome (drop from pieces.now.writes) e seat.old seat.new) }
 {
-    for w in pieces {
-        put(rt, image, seat, w)?;
+    for k in from..pieces.len() {
+        if let Some(w) = pieces.get(k) {
+            let copy = Write {
+                at: w.at,
+                piece: Piece::of(w.piece),
+            };
+            put(rt, image, seat, &copy)?;
+        }
     }
     Ok(())
 }

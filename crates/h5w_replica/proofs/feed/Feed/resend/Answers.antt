@@ -8,7 +8,7 @@ pub invariant_of-self-2 : goal.invariant_of-self-2
 invariant_of-self-2 c =
     let was : c.self.inside.back ≡ Some c.in-Some.batch = search rules in
     let o = offered (sent c.self.inside.producer) (sent c.offer.new.producer) c.offer.result c.in-Some.batch (known_free c.self.inside.producer) (known_free c.offer.new.producer) c.offer.ensures.taken c.offer.ensures.back in
-    (resent c.self.inside.seat _ _ c.self.inside.back c.offer.result c.in-Some.batch _ _ c.self.inside.unsent.items c.self.invariant.0 was o, c.self.invariant.1)
+    (resent c.self.inside.seat _ _ c.self.inside.back c.offer.result c.in-Some.batch _ _ c.self.inside.unsent.writes c.self.invariant.0 was o, c.self.invariant.1)
 
 pub returns-clause-taken : goal.returns-clause-taken
 returns-clause-taken c =

@@ -1,4 +1,4 @@
-use Rattle.std.proofs.Common.{◌≡◌, ◌++◌, ◌∷◌, [], ℕ, List, ap, arith, subst, sym, ◌∙◌}
+use Rattle.std.proofs.Common.{ap, arith, subst, sym, List}
 use Rattle.rtrb.specs.Ring.{sent}
 use Rattle.h5w_model.specs.declared.piece.Write.{Write}
 use Rattle.h5w_shared.specs.Seats.{SeatView}
@@ -8,13 +8,11 @@ use Rattle.h5w_replica.proofs.feed.Feed.write.Goals as goal
 
 pub invariant_of-self-2 : goal.invariant_of-self-2
 invariant_of-self-2 g c =
-    let seat = c.in_ok-write.ensures.seat in
-    let items : c.push_reserved.new.self.items ≡ c.self.inside.unsent.items ++ c.args.w.now ∷ [] =
-    c.push_reserved.ensures.items ∙ ap (λ (b : List ℕ). c.self.inside.unsent.items ++ record { at = c.args.w.now.at; piece = b } ∷ []) (c.of.ensures ∙ c.as_slice.ensures.value) in (
-      subst (λ (l : List Write). IsFeed c.write.new.self.seat.now (sent c.self.inside.producer) c.self.inside.back l) (sym items)
-          (fed_more c.self.inside.seat c.write.new.self.seat.now (sent c.self.inside.producer) c.self.inside.back c.self.inside.unsent.items c.args.w.now c.self.invariant.0 (ap (λ (s : SeatView). s.image) seat) (ap (λ (s : SeatView). s.seen) seat) c.as_slice.ensures.bound),
+    let seat = c.in_ok-write.ensures.seat in (
+      subst (λ (l : List Write). IsFeed c.write.new.self.seat.now (sent c.self.inside.producer) c.self.inside.back l) (sym c.push.ensures.last)
+          (fed_more c.self.inside.seat c.write.new.self.seat.now (sent c.self.inside.producer) c.self.inside.back c.self.inside.unsent.writes c.args.w.now c.self.invariant.0 (ap (λ (s : SeatView). s.image) seat) (ap (λ (s : SeatView). s.seen) seat) c.len-len.ensures.bound),
       record {
         image = omega (arith, ap (λ (s : SeatView). s.pieces) seat, c.self.invariant.1.image);
-        unsent = omega (arith, c.push_reserved.ensures.len, c.push_reserved.ensures.capacity, c.self.invariant.1.unsent, c.requires.room, ap (λ (f : FeedView). f.room) c.self.view_is);
+        unsent = omega (arith, c.push.ensures.room, c.self.invariant.1.unsent, c.requires.room, ap (λ (f : FeedView). f.room) c.self.view_is);
       },
     )
