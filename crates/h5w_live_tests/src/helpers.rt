@@ -15,7 +15,7 @@ use std::thread;
 use std::thread::Threads;
 
 /// A dataset `data` of integers of 4 bytes, of so many rows in a chunk. So many bytes may wait unwritten after an append.
-fn options(alloc: Global, chunk_rows: u64, budget: u64) -> Result<Options, AllocError>
+pub fn options(alloc: Global, chunk_rows: u64, budget: u64) -> Result<Options, AllocError>
     requires rows { (1 ≤ chunk_rows) × (chunk_rows ≤ 65536) }
     requires budget { (1024 ≤ budget) × (budget ≤ 2 ^ 30) }
     ensures options { IfOk result AreOptions }
@@ -82,7 +82,7 @@ pub fn report_of<R: Threads + Wait + Sync, G: Gate>(
 }
 
 /// How often one actor looks whether another has come.
-const PATIENCE: u32 = 10_000_000;
+pub const PATIENCE: u32 = 10_000_000;
 
 /// Waits until an actor has come, and tells where it was in vain.
 pub fn wait_for(came: &AtomicBool, late: &AtomicBool) {

@@ -8,3 +8,5 @@ mod gates;
 mod helpers;
 #[cfg(test)]
 mod mirrors;
+#[cfg(test)]
+mod successors;
