@@ -18,8 +18,8 @@ ghost use Rattle.h5w_make.specs.States.{HasPlace, IsAfter, IsAppended, IsClosed,
 use crate::seeded::generator;
 use h5w_model::{Bytes, OutOfMemory};
 use h5w_options::{IntType, Options};
-use h5w_writer::{AppendError, FlushError, WriterCore};
 use h5w_steady::SteadyImage;
+use h5w_writer::{AppendError, FlushError, WriterCore};
 use std::alloc::Global;
 
 /// How many values a batch has at most.

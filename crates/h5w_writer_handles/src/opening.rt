@@ -10,8 +10,8 @@ use crate::telling::open_told;
 use h5w_handles::{H5wCode, H5wTold, Handle, Held, put_line};
 use h5w_model::OutOfMemory;
 use h5w_writer::WriterCore;
-use h5w_writer_open::OpenError;
 use h5w_writer_lines::open_line;
+use h5w_writer_open::OpenError;
 use std::alloc::Global;
 
 /// The most bytes of the name of a dataset that is opened.

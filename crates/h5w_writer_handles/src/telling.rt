@@ -5,8 +5,8 @@ ghost use Rattle.h5w_writer_handles.specs.Tellings.{PutsLine, append_told, close
 
 use h5w_handles::{H5wCode, H5wTold, put_text, refusal_told};
 use h5w_writer::{AppendError, CloseError, FlushError};
-use h5w_writer_open::OpenError;
 use h5w_writer_lines::{WriterLine, write_line};
+use h5w_writer_open::OpenError;
 use std::alloc::Global;
 
 /// Why a file is not opened.

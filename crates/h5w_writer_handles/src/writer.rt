@@ -12,8 +12,8 @@ use crate::room::Room;
 use crate::telling::{append_told, close_told, flush_told, refuse};
 use h5w_handles::{H5wCode, H5wPlace, H5wTold};
 use h5w_model::{OutOfMemory, Write};
-use h5w_writer::WriterCore;
 use h5w_text::ErrorLine;
+use h5w_writer::WriterCore;
 use h5w_writer_lines::{WriterLine, append_line, close_line, flush_line};
 use std::alloc::Global;
 

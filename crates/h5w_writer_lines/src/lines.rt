@@ -3,8 +3,8 @@ ghost use Rattle.h5w_writer_lines.specs.Lines.{append_line, close_line, flush_li
 
 use h5w_model::{OutOfMemory, ReadError, Reply};
 use h5w_opening::OpenError;
-use h5w_writer::{AppendError, CloseError, FlushError};
 use h5w_text::{ErrorLine, write_error, write_reply};
+use h5w_writer::{AppendError, CloseError, FlushError};
 
 /// The line of a refusal of a session's call. That the session is stopped, or has pieces that are pending, ends no command: these are replies.
 #[derive(Drop)]

@@ -44,8 +44,9 @@ use Rattle.h5w_header_laws.specs.Files.{chunk_0, LayoutInChunk0}
 use Rattle.h5w_opening.specs.Openings.{Opened, looked_for, in_chunk_0, chunk_0_len}
 use Rattle.h5w_opening.proofs.FoundParts.{parts}
 use Rattle.h5w_opening.proofs.WritingLemmas.{alike_ok, dataset_alike, root_alike}
-use Rattle.h5w_starting_laws.specs.Starting.{no_chunk}
-use Rattle.h5w_starting_laws.proofs.StartLemmas.{created_blank, unnamed_nowhere}
+use Rattle.h5w_first_flush_laws.specs.FirstFlushes.{no_chunk}
+use Rattle.h5w_first_flush_laws.proofs.FirstFlushLemmas.{unnamed_nowhere}
+use Rattle.h5w_first_flush_laws.proofs.StartLemmas.{created_blank}
 use Rattle.h5w_block_laws.specs.HeaderAlone.{IsHeaderAlone}
 use Rattle.h5w_block_laws.proofs.AloneLemmas.{alone_begins}
 use Rattle.h5w_writer.specs.Indexes.{IsBlank, IsKeptIndex, Lacks, an_index, a_block}
