@@ -12,13 +12,13 @@ use Rattle.h5w_model.specs.declared.refusal.ReadError.TheVariants as read_errors
 use Rattle.h5w_laws.proofs.AnswerLemmas.{same_ok}
 use Rattle.h5w_laws.proofs.ResultLemmas.{and_then_ok, and_then_from}
 use Rattle.h5w_laws.proofs.ValidLemmas.{place_ok, dataset_ok}
-use Rattle.h5w_visit_laws.specs.Ranges.{Among, AllSome, Disjoint}
-use Rattle.h5w_visit_laws.specs.Indexes.{IsIndex}
-use Rattle.h5w_visit_laws.proofs.RangeLemmas.{among_left, among_right, among_split, some_cons, some_joined}
-use Rattle.h5w_visit_laws.proofs.OverlapLemmas.{overlap_laws}
-use Rattle.h5w_visit_laws.proofs.HeaderLaws.{root_tells, header_tells}
-use Rattle.h5w_visit_laws.proofs.IndexLaws.{checked_index}
-use Rattle.h5w_visit_laws.proofs.NeededLaws.{table_laws}
+use Rattle.h5w_step_laws.specs.Ranges.{Among, AllSome, Disjoint}
+use Rattle.h5w_step_laws.specs.Indexes.{IsIndex}
+use Rattle.h5w_step_laws.proofs.RangeLemmas.{among_left, among_right, among_split, some_cons, some_joined}
+use Rattle.h5w_step_laws.proofs.OverlapLemmas.{overlap_laws}
+use Rattle.h5w_step_laws.proofs.HeaderLaws.{root_tells, header_tells}
+use Rattle.h5w_step_laws.proofs.IndexLaws.{checked_index}
+use Rattle.h5w_step_laws.proofs.NeededLaws.{table_laws}
 use Rattle.h5w_step_laws.specs.Moments.{Moment, HasRoot, Represents, reading_of, all_used}
 use Rattle.h5w_step_laws.specs.Logs.{MomentFound}
 use Rattle.h5w_step_laws.specs.Sessions.{Opens}

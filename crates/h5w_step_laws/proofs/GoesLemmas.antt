@@ -18,8 +18,8 @@ use Rattle.h5w_model.proofs.ImageLemmas.{image-push, Apart-part, Apart-sym}
 use Rattle.h5w_laws.proofs.AnswerLemmas.{same_ok}
 use Rattle.h5w_laws.proofs.LogLemmas.{length_hist, image_earlier}
 use Rattle.h5w_laws.proofs.EventLemmas.{event_laws}
-use Rattle.h5w_visit_laws.specs.Ranges.{Among, AllAmong, AllEndBy, AllWithin, AreApart, AllSome, Disjoint, MissesBlocks}
-use Rattle.h5w_visit_laws.proofs.RangeLemmas.{among_left, among_right, among_split, ends_right, ends_joined, ends_later, some_joined, within_more}
+use Rattle.h5w_step_laws.specs.Ranges.{Among, AllAmong, AllEndBy, AllWithin, AreApart, AllSome, Disjoint, MissesBlocks}
+use Rattle.h5w_step_laws.proofs.RangeLemmas.{among_left, among_right, among_split, ends_right, ends_joined, ends_later, some_joined, within_more}
 use Rattle.h5w_step_laws.specs.Moments.{Moment, Represents, reading_of, front_of, moved_of, all_used}
 use Rattle.h5w_step_laws.specs.Steps.{Step, unseen, ends, switches, commits, OffAll, Clear, HeldBehind}
 use Rattle.h5w_step_laws.specs.Logs.{image_now, IsPast, Goes, PieceGoes, EventGoes, BeginGoes}

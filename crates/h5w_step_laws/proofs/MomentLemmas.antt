@@ -19,12 +19,12 @@ use Rattle.h5w_model.proofs.CheckedLemmas.{checked-passed}
 use Rattle.h5w_model.proofs.ImageLemmas.{range-apply_missed, length-range, Apart-part}
 use Rattle.h5w_laws.proofs.ResultLemmas.{then_ok, then_from, refused_ok, fails}
 use Rattle.h5w_laws.proofs.SlotLemmas.{refused_from}
-use Rattle.h5w_visit_laws.specs.Ranges.{Among, AllAmong, AreApart, Disjoint, chunk_at}
-use Rattle.h5w_visit_laws.specs.Headers.{IsSized, HeaderChecked}
-use Rattle.h5w_visit_laws.specs.Needed.{AreFew, HasTable}
-use Rattle.h5w_visit_laws.proofs.RangeLemmas.{among_left, among_right}
-use Rattle.h5w_visit_laws.proofs.HeaderLaws.{header_tells}
-use Rattle.h5w_visit_laws.proofs.NeededLaws.{table_any}
+use Rattle.h5w_step_laws.specs.Ranges.{Among, AllAmong, AreApart, Disjoint, chunk_at}
+use Rattle.h5w_step_laws.specs.Headers.{IsSized, HeaderChecked}
+use Rattle.h5w_step_laws.specs.Needed.{AreFew, HasTable}
+use Rattle.h5w_step_laws.proofs.RangeLemmas.{among_left, among_right}
+use Rattle.h5w_step_laws.proofs.HeaderLaws.{header_tells}
+use Rattle.h5w_step_laws.proofs.NeededLaws.{table_any}
 use Rattle.h5w_step_laws.specs.Moments.{Moment, Represents, HasCells, MissesCells, reading_of, all_used, row_of, column_of, chunk_of, cell_place}
 use Rattle.h5w_step_laws.specs.Steps.{LiesIn}
 use Rattle.h5w_step_laws.proofs.PartLemmas.{disjoint_right, disjoint_apart}

@@ -5,8 +5,8 @@ use Rattle.std.proofs.lemmas.Bool.{eq-eqb}
 use Rattle.std.proofs.lemmas.Bool.Decides.{eqb_tells}
 use Rattle.h5w_model.specs.Findings.{Used}
 use Rattle.h5w_model.proofs.ImageLemmas.{Apart-sym}
-use Rattle.h5w_visit_laws.specs.Ranges.{Among, AllSome, AreApart, Disjoint}
-use Rattle.h5w_visit_laws.proofs.RangeLemmas.{among_left, among_right}
+use Rattle.h5w_step_laws.specs.Ranges.{Among, AllSome, AreApart, Disjoint}
+use Rattle.h5w_step_laws.proofs.RangeLemmas.{among_left, among_right}
 use Rattle.h5w_step_laws.specs.Counts.{count_at, DisjointPart}
 
 pub apart_sym : (u v : Used) → AreApart u v → AreApart v u

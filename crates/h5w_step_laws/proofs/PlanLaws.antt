@@ -5,9 +5,9 @@ use Rattle.h5w_model.specs.Images.{apply, Apart, AllMiss, pieces}
 use Rattle.h5w_model.specs.Findings.{Used, the_superblock}
 use Rattle.h5w_model.specs.declared.piece.Write.{Write}
 use Rattle.h5w_model.proofs.ImageLemmas.{pieces-miss, Apart-part, Apart-sym}
-use Rattle.h5w_visit_laws.specs.Ranges.{Among, AllEndBy, block_at}
-use Rattle.h5w_visit_laws.proofs.RangeLemmas.{among_left, among_right, among_split}
-use Rattle.h5w_visit_laws.proofs.HeaderLaws.{root_tells}
+use Rattle.h5w_step_laws.specs.Ranges.{Among, AllEndBy, block_at}
+use Rattle.h5w_step_laws.proofs.RangeLemmas.{among_left, among_right, among_split}
+use Rattle.h5w_step_laws.proofs.HeaderLaws.{root_tells}
 use Rattle.h5w_step_laws.specs.Moments.{Moment, Represents, all_used, chunk_of, cell_place}
 use Rattle.h5w_step_laws.specs.Steps.{Step, unseen}
 use Rattle.h5w_step_laws.specs.Plans.{Plan, Flush, PlansJoin, FlushFrom, PlanLeads, FlushLeads, UnseenPieces, PastEnd, FreePlace, OwnCells, RetiredPlace}

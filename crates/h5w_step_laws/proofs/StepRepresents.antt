@@ -12,11 +12,11 @@ use Rattle.h5w_model.specs.declared.root.Super.{Super}
 use Rattle.h5w_model.specs.declared.piece.Write.{Write}
 use Rattle.h5w_model.proofs.ImageLemmas.{At-apply, range-apply_missed, apply-grows, length-range, Apart-part}
 use Rattle.h5w_model.proofs.CheckedLemmas.{checked-passed}
-use Rattle.h5w_visit_laws.specs.Ranges.{Among, AllAmong, AreApart, Disjoint, MissesBlocks}
-use Rattle.h5w_visit_laws.proofs.RangeLemmas.{among_left, among_right, among_split, ends_later}
-use Rattle.h5w_visit_laws.proofs.HeaderLaws.{root_tells, root_missed, header_tells, header_missed}
-use Rattle.h5w_visit_laws.proofs.IndexLaws.{index_missed, index_by_end}
-use Rattle.h5w_visit_laws.proofs.NeededLaws.{table_laws}
+use Rattle.h5w_step_laws.specs.Ranges.{Among, AllAmong, AreApart, Disjoint, MissesBlocks}
+use Rattle.h5w_step_laws.proofs.RangeLemmas.{among_left, among_right, among_split, ends_later}
+use Rattle.h5w_step_laws.proofs.HeaderLaws.{root_tells, root_missed, header_tells, header_missed}
+use Rattle.h5w_step_laws.proofs.IndexLaws.{index_missed, index_by_end}
+use Rattle.h5w_step_laws.proofs.NeededLaws.{table_laws}
 use Rattle.h5w_step_laws.specs.Moments.{Moment, Represents, HasCells, HasRoot, all_used}
 use Rattle.h5w_step_laws.specs.Steps.{Unseen, Ends, LiesIn, Switches, InChunk0, Commits, Step, unseen, ends, switches, commits}
 use Rattle.h5w_step_laws.proofs.PartLemmas.{apart_sym, disjoint_left, disjoint_right}

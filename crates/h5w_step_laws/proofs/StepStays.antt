@@ -18,11 +18,11 @@ use Rattle.h5w_model.specs.declared.cell.IndexKind.TheVariants.{Array, Tree}
 use Rattle.h5w_model.specs.declared.piece.Write.{Write}
 use Rattle.h5w_model.specs.declared.refusal.ReadError.{ReadError}
 use Rattle.h5w_laws.proofs.StaysLemmas.{defined_itself, described_itself, header_itself, same_named}
-use Rattle.h5w_visit_laws.specs.Ranges.{AllEndBy, MissesBlocks, block_at, visits_of}
-use Rattle.h5w_visit_laws.specs.Headers.{HeaderChecked}
-use Rattle.h5w_visit_laws.proofs.RangeLemmas.{among_left, among_right, ends_left, missed_stay}
-use Rattle.h5w_visit_laws.proofs.HeaderLaws.{header_missed}
-use Rattle.h5w_visit_laws.proofs.IndexLaws.{place_same}
+use Rattle.h5w_step_laws.specs.Ranges.{AllEndBy, MissesBlocks, block_at, visits_of}
+use Rattle.h5w_step_laws.specs.Headers.{HeaderChecked}
+use Rattle.h5w_step_laws.proofs.RangeLemmas.{among_left, among_right, ends_left, missed_stay}
+use Rattle.h5w_step_laws.proofs.HeaderLaws.{header_missed}
+use Rattle.h5w_step_laws.proofs.IndexLaws.{place_same}
 use Rattle.h5w_step_laws.specs.Moments.{Moment, Represents, reading_of, all_used}
 use Rattle.h5w_step_laws.specs.Steps.{Step, unseen, ends, switches, commits}
 use Rattle.h5w_step_laws.proofs.MomentLemmas.{nested, inside, root_at, header_of, in_root, in_header, in_fixed}

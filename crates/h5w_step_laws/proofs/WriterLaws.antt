@@ -21,14 +21,14 @@ use Rattle.h5w_model.specs.declared.refusal.ReadError.{ReadError}
 use Rattle.h5w_laws.proofs.ResultLemmas.{and_then_ok}
 use Rattle.h5w_laws.proofs.StaysLemmas.{defined_itself}
 use Rattle.h5w_laws.proofs.LogLemmas.{div_rises}
-use Rattle.h5w_visit_laws.specs.Ranges.{Among, Disjoint, block_at, blocks_of}
-use Rattle.h5w_visit_laws.specs.Indexes.{IsIndex, IsBehind}
-use Rattle.h5w_visit_laws.specs.Needed.{AreFew, HasTable}
-use Rattle.h5w_visit_laws.proofs.RangeLemmas.{among_left, among_right}
-use Rattle.h5w_visit_laws.proofs.HeaderLaws.{header_tells}
-use Rattle.h5w_visit_laws.proofs.IndexVisits.{NoBlock, HasBlock, array_cases}
-use Rattle.h5w_visit_laws.proofs.IndexLaws.{index_as, index_missed, checked_index, visited_behind, behind_missed}
-use Rattle.h5w_visit_laws.proofs.NeededLaws.{table_laws, table_any, same_addresses}
+use Rattle.h5w_step_laws.specs.Ranges.{Among, Disjoint, block_at, blocks_of}
+use Rattle.h5w_step_laws.specs.Indexes.{IsIndex, IsBehind}
+use Rattle.h5w_step_laws.specs.Needed.{AreFew, HasTable}
+use Rattle.h5w_step_laws.proofs.RangeLemmas.{among_left, among_right}
+use Rattle.h5w_step_laws.proofs.HeaderLaws.{header_tells}
+use Rattle.h5w_step_laws.proofs.IndexVisits.{NoBlock, HasBlock, array_cases}
+use Rattle.h5w_step_laws.proofs.IndexLaws.{index_as, index_missed, checked_index, visited_behind, behind_missed}
+use Rattle.h5w_step_laws.proofs.NeededLaws.{table_laws, table_any, same_addresses}
 use Rattle.h5w_step_laws.specs.Moments.{Moment, HasCells, all_used}
 use Rattle.h5w_step_laws.specs.Steps.{LiesIn, switches, commits}
 use Rattle.h5w_step_laws.specs.Writers.{NamingSwitches, GrowingCommits, StartingCommits}

@@ -1,7 +1,7 @@
 -- How often ranges begin at a place: so that the ranges of an index after a change do not meet.
 use Rattle.std.specs.Prelude.{ℕ, ◌+◌, ◌≤◌, List, [], ◌∷◌, ◌==◌, if◌then◌else◌}
 use Rattle.h5w_model.specs.Findings.{Used}
-use Rattle.h5w_visit_laws.specs.Ranges.{AllAmong, Disjoint}
+use Rattle.h5w_step_laws.specs.Ranges.{AllAmong, Disjoint}
 
 -- how many ranges begin at a place
 abbrev pub count_at : ℕ → List Used → ℕ

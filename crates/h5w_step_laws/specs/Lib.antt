@@ -5,3 +5,11 @@ pub mod Plans
 pub mod Counts
 pub mod Writers
 pub mod Sessions
+pub mod Ranges
+pub mod Indexes
+pub mod Headers
+pub mod Needed
+pub mod Commits
+pub mod Files
+pub mod Spelled
+pub mod HeaderSteps

@@ -6,7 +6,7 @@ use Rattle.h5w_model.specs.Tables.{Reading, Shows, Reads, format_limits}
 use Rattle.h5w_model.specs.Findings.{Used, Summary, Valid}
 use Rattle.h5w_model.specs.Prefixed.{image_at, PrefixedEach, Still}
 use Rattle.h5w_model.specs.declared.piece.Write.{Write}
-use Rattle.h5w_visit_laws.specs.Ranges.{AllAmong, AllEndBy, AllSome}
+use Rattle.h5w_step_laws.specs.Ranges.{AllAmong, AllEndBy, AllSome}
 use Rattle.h5w_step_laws.specs.Moments.{Moment, front_of, Represents}
 use Rattle.h5w_step_laws.specs.Steps.{OffAll, Clear, HeldBehind, Step}
 

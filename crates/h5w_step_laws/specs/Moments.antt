@@ -9,8 +9,8 @@ use Rattle.h5w_model.specs.Tables.{Reading, chunk_address, cell_offset, cell, ta
 use Rattle.h5w_model.specs.Findings.{Used, the_superblock, checked_super, checked_root, checked_dataset}
 use Rattle.h5w_model.specs.declared.root.Super.{Super}
 use Rattle.h5w_model.specs.declared.piece.Write.{Write}
-use Rattle.h5w_visit_laws.specs.Ranges.{AllEndBy, Disjoint}
-use Rattle.h5w_visit_laws.specs.Indexes.{IsIndex}
+use Rattle.h5w_step_laws.specs.Ranges.{AllEndBy, Disjoint}
+use Rattle.h5w_step_laws.specs.Indexes.{IsIndex}
 
 -- A file: its superblock, the dataset header's place and what it says, the ranges of the root header, of the dataset
 -- header, of the index's blocks in place and of what stands behind them, the needed chunks' addresses, and the values of

@@ -4,7 +4,7 @@ use Rattle.h5w_model.specs.Numbers.{undefined}
 use Rattle.h5w_model.specs.Images.{apply, image, Apart, pieces}
 use Rattle.h5w_model.specs.Findings.{Used}
 use Rattle.h5w_model.specs.declared.piece.Write.{Write}
-use Rattle.h5w_visit_laws.specs.Ranges.{Among, AllAmong, AllEndBy, Disjoint}
+use Rattle.h5w_step_laws.specs.Ranges.{Among, AllAmong, AllEndBy, Disjoint}
 use Rattle.h5w_step_laws.specs.Moments.{Moment, all_used, chunk_of, cell_place, Represents}
 use Rattle.h5w_step_laws.specs.Steps.{Clear, Step}
 

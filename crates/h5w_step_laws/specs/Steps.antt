@@ -12,8 +12,8 @@ use Rattle.h5w_model.specs.Prefixed.{IsKey, StaysDefined, NamesBlock, SameDescri
 use Rattle.h5w_model.specs.declared.cell.Key.{Key}
 use Rattle.h5w_model.specs.declared.cell.IndexKind.TheVariants.{Array}
 use Rattle.h5w_model.specs.declared.piece.Write.{Write}
-use Rattle.h5w_visit_laws.specs.Ranges.{Among, AreApart, Disjoint, MissesBlocks, AllWithin}
-use Rattle.h5w_visit_laws.specs.Indexes.{IsIndex}
+use Rattle.h5w_step_laws.specs.Ranges.{Among, AreApart, Disjoint, MissesBlocks, AllWithin}
+use Rattle.h5w_step_laws.specs.Indexes.{IsIndex}
 use Rattle.h5w_step_laws.specs.Moments.{Moment, all_used, HasCells, MissesCells}
 
 -- bytes that no reader reaches: new chunks, copies of blocks at new places, own cells of stored chunks

@@ -8,8 +8,8 @@ use Rattle.h5w_model.specs.Tables.{InPlace, in_place, address_behind, each_of, t
 use Rattle.h5w_model.specs.Findings.{Used, checked_dataset, chunk_bytes, index_visit}
 use Rattle.h5w_model.specs.Prefixed.{StaysDefined, SameDescribed, SameHeader}
 use Rattle.h5w_model.specs.declared.piece.Write.{Write}
-use Rattle.h5w_visit_laws.specs.Ranges.{AllEndBy, Disjoint, blocks_of}
-use Rattle.h5w_visit_laws.specs.Indexes.{behind_visit}
+use Rattle.h5w_step_laws.specs.Ranges.{AllEndBy, Disjoint, blocks_of}
+use Rattle.h5w_step_laws.specs.Indexes.{behind_visit}
 use Rattle.h5w_step_laws.specs.Moments.{Moment, all_used, HasCells, Represents}
 use Rattle.h5w_step_laws.specs.Steps.{LiesIn, InChunk0, OffAll, Clear, Step}
 

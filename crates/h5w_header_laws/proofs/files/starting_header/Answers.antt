@@ -1,5 +1,0 @@
-use Rattle.h5w_header_laws.proofs.files.starting_header.Goals as goal
-use Rattle.h5w_header_laws.proofs.FileLaws as lemmas
-
-pub returns : goal.returns
-returns c = lemmas.starting_header

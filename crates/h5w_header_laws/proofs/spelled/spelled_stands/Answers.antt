@@ -1,5 +1,0 @@
-use Rattle.h5w_header_laws.proofs.spelled.spelled_stands.Goals as goal
-use Rattle.h5w_header_laws.proofs.SpelledLemmas as lemmas
-
-pub returns : goal.returns
-returns c = lemmas.spelled_stands

@@ -1,5 +1,0 @@
-use Rattle.h5w_header_laws.proofs.steps.growing_step.Goals as goal
-use Rattle.h5w_header_laws.proofs.StepLaws as lemmas
-
-pub returns : goal.returns
-returns c = lemmas.growing_step

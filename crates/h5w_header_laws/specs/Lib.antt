@@ -1,4 +1,0 @@
-pub mod Commits
-pub mod Files
-pub mod Spelled
-pub mod Steps

@@ -1,0 +1,5 @@
+use Rattle.h5w_step_laws.proofs.commits.rows_written.Goals as goal
+use Rattle.h5w_step_laws.proofs.CommitLaws as lemmas
+
+pub returns : goal.returns
+returns c = lemmas.rows_written

@@ -1,0 +1,5 @@
+use Rattle.h5w_step_laws.proofs.files.starting_header.Goals as goal
+use Rattle.h5w_step_laws.proofs.FileLaws as lemmas
+
+pub returns : goal.returns
+returns c = lemmas.starting_header

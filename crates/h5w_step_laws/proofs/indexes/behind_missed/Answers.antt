@@ -1,0 +1,5 @@
+use Rattle.h5w_step_laws.proofs.indexes.behind_missed.Goals as goal
+use Rattle.h5w_step_laws.proofs.IndexLaws as lemmas
+
+pub returns : goal.returns
+returns c = lemmas.behind_missed

@@ -1,0 +1,5 @@
+use Rattle.h5w_step_laws.proofs.spelled.spelled_stands.Goals as goal
+use Rattle.h5w_step_laws.proofs.SpelledLemmas as lemmas
+
+pub returns : goal.returns
+returns c = lemmas.spelled_stands

@@ -1,0 +1,5 @@
+use Rattle.h5w_step_laws.proofs.steps.starting_step.Goals as goal
+use Rattle.h5w_step_laws.proofs.StepLaws as lemmas
+
+pub returns : goal.returns
+returns c = lemmas.starting_step

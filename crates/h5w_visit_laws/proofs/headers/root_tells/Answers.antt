@@ -1,5 +1,0 @@
-use Rattle.h5w_visit_laws.proofs.headers.root_tells.Goals as goal
-use Rattle.h5w_visit_laws.proofs.HeaderLaws as lemmas
-
-pub returns : goal.returns
-returns c = lemmas.root_tells

@@ -1,5 +1,0 @@
-use Rattle.h5w_visit_laws.proofs.indexes.index_of_parts.Goals as goal
-use Rattle.h5w_visit_laws.proofs.IndexLaws as lemmas
-
-pub returns : goal.returns
-returns c = lemmas.index_of_parts

@@ -1,5 +1,0 @@
-use Rattle.h5w_visit_laws.proofs.ranges.overlap_laws.Goals as goal
-use Rattle.h5w_visit_laws.proofs.OverlapLemmas as lemmas
-
-pub returns : goal.returns
-returns c = lemmas.overlap_laws

@@ -1,4 +1,0 @@
-pub mod Ranges
-pub mod Indexes
-pub mod Headers
-pub mod Needed
