@@ -1,6 +1,6 @@
 pub mod Tables
-pub mod Reading
-pub mod Refusals
+mod Reading
+mod Refusals
 pub mod Writing
 pub mod Spelling
 pub mod KeyLemmas

@@ -4,3 +4,4 @@ pub use Rattle.h5w_model.specs.Checked
 pub use Rattle.h5w_model.specs.Numbers
 pub mod Parts
 pub mod Fields
+pub mod Lengths

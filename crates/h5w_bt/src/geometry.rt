@@ -1,5 +1,9 @@
-ghost use Rattle.std.specs.Prelude.{◌≡◌, ◌+◌, ◌<◌, ◌≤◌, ℕ};
-ghost use Rattle.h5w_model.specs.Trees.{capacity_of, subtree_of, pointer_size, btin_len, node_size};
+ghost use Rattle.std.specs.Prelude.{◌≡◌, ◌+◌, ◌^◌, ◌<◌, ◌≤◌, ℕ};
+ghost use Rattle.h5w_model.specs.Trees.{capacity_of, subtree_of, pointer_size, btin_len, btlf_len, node_size};
+ghost use Rattle.h5w_bt.specs.Lengths.{node_len};
+
+use crate::fields::FRAME;
+use crate::records::RECORD;
 
 /// How many bytes a node takes in the file.
 pub const NODE: usize = 2048;
@@ -40,4 +44,23 @@ pub fn pointer_size(depth: u64) -> usize
     ensures high { result ≤ 12 }
 {
     if depth == 1 { 9 } else { 9 + depth as usize }
+}
+
+/// How many bytes a node of a depth with `n` records has, up to its sum.
+pub fn node_len(depth: u64, n: u64) -> u64
+    requires shallow { depth ≤ 3 }
+    requires few { n ≤ 84 }
+    ensures exact { result ≡ node_len depth n }
+    ensures leaf { depth ≡ 0 → result ≡ btlf_len n }
+    ensures inner { (d : ℕ) → depth ≡ d + 1 → result ≡ btin_len n depth }
+    ensures some { 0 < result }
+    ensures small { result < 2 ^ 32 }
+{
+    let records = FRAME as u64 + RECORD as u64 * n;
+    match depth {
+        0 => records,
+        1 => records + (n + 1) * 9,
+        2 => records + (n + 1) * 11,
+        _ => records + (n + 1) * 12,
+    }
 }

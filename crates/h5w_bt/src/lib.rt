@@ -10,13 +10,15 @@ mod fields;
 mod geometry;
 mod header;
 mod inner;
+mod keys;
 mod leaf;
 mod records;
 
 pub use children::{Child, Children};
-pub use geometry::{NODE, capacity, subtree};
+pub use geometry::{NODE, capacity, node_len, subtree};
 pub use h5w_model::{BlockFault, Key};
 pub use header::Bthd;
 pub use inner::Btin;
+pub use keys::{is_below, is_same};
 pub use leaf::Btlf;
 pub use records::{Record, Records};

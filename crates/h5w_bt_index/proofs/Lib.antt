@@ -1,12 +1,12 @@
 pub mod Rising
 pub mod Joined
-pub mod Parts
+mod Parts
 pub mod Grown
 pub mod Bounds
 pub mod Shares
-pub mod Marks
+mod Marks
 pub mod Laws
 pub mod Placed
-pub mod Headers
-pub mod Started
+mod Headers
+mod Started
 pub mod Replaced

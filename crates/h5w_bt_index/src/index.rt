@@ -15,7 +15,7 @@ ghost use Rattle.h5w_bt_nodes.specs.Nodes.{records_of, total_of};
 ghost use Rattle.h5w_bt_nodes.specs.Puts.{put_record};
 
 use crate::error::InsertError;
-use crate::plan::{Begun, begin, finish};
+use crate::plan::{NodeFlush, begin, finish};
 use crate::root::Root;
 use h5w_bt::{Bthd, Key, Record};
 use h5w_bt_nodes::Leaf;
@@ -232,7 +232,7 @@ impl TreeIndex {
     /// ones, and those that they had are retired, where they are live.
     ///
     /// The tree does not change. After a refusal the places are of no use: some are taken.
-    pub fn begin(&self, places: &mut Places) -> Result<Begun, PlanError>
+    pub fn begin(&self, places: &mut Places) -> Result<NodeFlush, PlanError>
         requires { IsShaped (view_of self.now) }
         ensures begun { IfOk result (λ b. IsBegun (header_place self.now) (view_of self.now) places.old b places.new) }
         // the first node in turn that has no place
@@ -247,7 +247,7 @@ impl TreeIndex {
     /// parent, the header where it stands. All is clean from then on.
     ///
     /// It cannot fail.
-    pub fn finish(&mut self, begun: Begun) -> Plan
+    pub fn finish(&mut self, begun: NodeFlush) -> Plan
         requires shape { IsShaped (view_of self.old) }
         requires begun { WasBegun (header_place self.old) (view_of self.old) begun }
         // on whichever places it was begun

@@ -12,5 +12,5 @@ mod root;
 pub use error::InsertError;
 pub use h5w_bt::Key;
 pub use index::TreeIndex;
-pub use plan::Begun;
+pub use plan::NodeFlush;
 pub use root::Root;

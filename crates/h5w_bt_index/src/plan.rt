@@ -19,15 +19,15 @@ use h5w_space::{Full, Places};
 use std::alloc::Global;
 use std::marker::Model;
 
-/// A plan that is begun: its moves and its writes. It has its places, and no node has changed yet.
+/// A flush of a tree's changed nodes that is begun: its moves and its writes. It has its places, and no node has changed yet.
 #[derive(Drop)]
-pub struct Begun {
+pub struct NodeFlush {
     plan: Plan,
     /// The places that the changed nodes get, in the order in which they are written.
     new: Vec<u64>,
 }
 
-impl Model for Begun {
+impl Model for NodeFlush {
     ghost use Rattle.std.specs.Prelude.{◌≡◌};
     ghost use Rattle.h5w_bt_index.specs.Plans.{Start, news};
 
@@ -42,7 +42,7 @@ impl Model for Begun {
     ghost invariant = { λ b. b.new.items ≡ news b.plan.moves.items };
 }
 
-impl Begun {
+impl NodeFlush {
     /// How many pieces the writes of the changed nodes will be.
     pub fn copies(&self) -> usize
         ensures { result ≡ length self.now.copies }
@@ -171,7 +171,7 @@ pub fn begin(
     place: u64,
     alloc: Global,
     places: &mut Places,
-) -> Result<Begun, PlanError>
+) -> Result<NodeFlush, PlanError>
     requires { IsShaped (index_of root.now) }
     ensures begun { IfOk result (λ b. IsBegun place (index_of root.now) places.old b places.new) }
     ensures full { IfErr result (λ e. IfFull e (HasNoPlace (changes (index_of root.now).depth (index_of root.now).root) places.old)) }
@@ -186,18 +186,18 @@ pub fn begin(
         copies,
         in_place,
     };
-    Ok(Begun { plan, new })
+    Ok(NodeFlush { plan, new })
 }
 
 /// The plan that was begun of this tree; all nodes are clean from then on.
-pub fn finish(root: &mut Root, begun: Begun) -> Plan
+pub fn finish(root: &mut Root, begun: NodeFlush) -> Plan
     requires old { olds begun.moves ≡ stood (index_of root.old).depth (index_of root.old).root }
     ensures moves { result.moves.items ≡ begun.moves }
     ensures copies { result.copies.items ≡ begun.copies }
     ensures in_place { result.in_place.items ≡ begun.in_place }
     ensures planned { index_of root.new ≡ planned (news begun.moves) (index_of root.old) }
 {
-    let Begun { plan, new } = begun;
+    let NodeFlush { plan, new } = begun;
     root.settle(&new);
     plan
 }

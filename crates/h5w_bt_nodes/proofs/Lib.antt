@@ -1,15 +1,15 @@
 pub mod Records
 pub mod Places
 pub mod Steps
-pub mod Edits
+mod Edits
 pub mod Parts
 pub mod Children
 pub mod Bounds
 pub mod Shapes
 pub mod Over
 pub mod Searched
-pub mod Down
+mod Down
 pub mod Placed
-pub mod Turns
+mod Turns
 pub mod NodeBytes
-pub mod Written
+mod Written

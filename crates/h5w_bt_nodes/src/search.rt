@@ -1,32 +1,18 @@
 //! The place of a key among the records of a node.
 
 ghost use Rattle.std.specs.Prelude.{◌≡◌, ◌+◌, ◌≤◌, length, if◌then◌else◌, is_some, true, OnOk, OnErr};
-ghost use Rattle.h5w_model.specs.Tables.{key_below, key_equal};
+ghost use Rattle.h5w_model.specs.Tables.{key_equal};
 ghost use Rattle.h5w_bt_nodes.specs.Nodes.{rank, address_in};
 ghost use Rattle.h5w_bt_nodes.specs.Puts.{put_record};
 
-use h5w_bt::{Key, Record};
+use h5w_bt::{Key, Record, is_below, is_same};
 use h5w_model::OutOfMemory;
-
-/// Whether a key comes before another: by dimension 0, then 1.
-fn is_below(a: &Key, b: Key) -> bool
-    ensures { result ≡ key_below a.now b }
-{
-    a.i < b.i || (a.i == b.i && a.j < b.j)
-}
-
-/// Whether two keys are the same.
-fn is_same(a: Key, b: Key) -> bool
-    ensures { result ≡ key_equal a b }
-{
-    a.i == b.i && a.j == b.j
-}
 
 /// The address of the record, where it has the key.
 fn address_at(item: &Record, key: Key) -> Option<u64>
     ensures { result ≡ (if key_equal item.now.key key then Some item.now.address else None) }
 {
-    if is_same(item.key, key) {
+    if is_same(&item.key, &key) {
         Some(item.address)
     } else {
         None
@@ -40,7 +26,7 @@ pub fn search(records: &[Record], key: Key) -> (usize, Option<u64>)
     ensures inside { result.0 ≤ length records.now }
 {
     for (i, item) in records.iter().enumerate() {
-        if !is_below(&item.key, key) {
+        if !is_below(&item.key, &key) {
             return (i, address_at(item, key));
         }
     }

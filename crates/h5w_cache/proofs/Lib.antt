@@ -1,6 +1,6 @@
-pub mod StoreLemmas
+mod StoreLemmas
 pub mod PlanLemmas
-pub mod PieceLemmas
+mod PieceLemmas
 pub mod PlannedLemmas
 pub mod MoveLemmas
 pub mod LawLemmas

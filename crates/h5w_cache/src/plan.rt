@@ -60,9 +60,9 @@ impl From<AllocError> for PlanError {
     }
 }
 
-/// A plan that is begun: its moves, with room for their writes. It has its places, and no block has changed yet.
+/// A flush of blocks that is begun: the moves of its plan, with room for their writes. It has its places, and no block has changed yet.
 #[derive(Drop)]
-pub struct Begun {
+pub struct BlockFlush {
     plan: Plan,
     /// How many blocks stand before the first in place.
     split: usize,
@@ -70,7 +70,7 @@ pub struct Begun {
     in_place: usize,
 }
 
-impl Model for Begun {
+impl Model for BlockFlush {
     ghost use Rattle.h5w_cache.specs.Starts.{HasRooms, Start};
 
     ghost Value = { Start };
@@ -83,7 +83,7 @@ impl Model for Begun {
     ghost invariant = { λ b. HasRooms b.plan b.split b.copies b.in_place };
 }
 
-impl Begun {
+impl BlockFlush {
     /// How many pieces the writes of the blocks before the first in place will be.
     pub fn copies(&self) -> usize
         ensures { result ≡ copy_pieces self.now }
@@ -107,12 +107,12 @@ impl Begun {
 }
 
 /// The plan without writes, and how many blocks stand before the first in place.
-pub fn parts(begun: Begun) -> (Plan, usize)
+pub fn parts(begun: BlockFlush) -> (Plan, usize)
     ensures moves { result.0.moves.items ≡ begun.moves }
     ensures split { result.1 ≡ begun.split }
     ensures rooms { HasRooms result.0 result.1 (copy_pieces begun) (in_place_pieces begun) }
 {
-    let Begun { plan, split, .. } = begun;
+    let BlockFlush { plan, split, .. } = begun;
     (plan, split)
 }
 
@@ -152,7 +152,7 @@ fn rooms(
 }
 
 /// The plan of these moves, begun.
-fn with_rooms(moves: Vec<Move>) -> Result<Begun, OutOfMemory>
+fn with_rooms(moves: Vec<Move>) -> Result<BlockFlush, OutOfMemory>
     ensures moves { IfOk result (λ b. b.moves ≡ moves.items) }
     ensures split { IfOk result (λ b. IsSplit moves.items b.split) }
 {
@@ -163,7 +163,7 @@ fn with_rooms(moves: Vec<Move>) -> Result<Begun, OutOfMemory>
         copies: copy_writes,
         in_place: in_place_writes,
     };
-    Ok(Begun {
+    Ok(BlockFlush {
         plan,
         split,
         copies,
@@ -177,7 +177,7 @@ pub fn begin(
     stood: &[u64],
     changed: &Vec<u32>,
     places: &mut Places,
-) -> Result<Begun, PlanError>
+) -> Result<BlockFlush, PlanError>
     requires kept { All (λ n. IsSome (block_in blocks.now n)) changed.now.items }
     ensures begun { IfOk result (λ b. IsBegun blocks.now stood.now changed.now.items places.old b places.new) }
     ensures full { IfErr result (λ e. IfFull e (HasNoRoom blocks.now stood.now changed.now.items places.old)) }

@@ -8,7 +8,7 @@ ghost use Rattle.h5w_cache.specs.StoreLaws.{KeepsStore};
 ghost use Rattle.h5w_cache.specs.Stores.{FitsAddresses, block_of, changed_to, grown, is_changed, kept_under, marked, no_blocks, place_of, times};
 
 use crate::block::{Block, copied, place_at};
-use crate::plan::{Begun, Plan, PlanError, begin, carry_out, parts};
+use crate::plan::{BlockFlush, Plan, PlanError, begin, carry_out, parts};
 use h5w_bytes::UNDEFINED;
 use h5w_model::OutOfMemory;
 use h5w_space::Places;
@@ -209,7 +209,7 @@ impl Cache {
     /// at the place that it has; each other one takes a place, and the place that it had is retired, where it is live.
     ///
     /// The store does not change. After a refusal the places are of no use: some are taken.
-    pub fn begin(&self, places: &mut Places) -> Result<Begun, PlanError>
+    pub fn begin(&self, places: &mut Places) -> Result<BlockFlush, PlanError>
         ensures begun { IfOk result (λ b. IsBegun self.now.blocks self.now.places self.now.changed places.old b places.new) }
         // the first block in turn that has no room
         ensures full { IfErr result (λ e. IfFull e (HasNoRoom self.now.blocks self.now.places self.now.changed places.old)) }
@@ -225,7 +225,7 @@ impl Cache {
     /// place that the plan has for it.
     ///
     /// It cannot fail.
-    pub fn finish(&mut self, begun: Begun) -> Plan
+    pub fn finish(&mut self, begun: BlockFlush) -> Plan
         requires { WasBegun self.old.blocks self.old.places self.old.changed begun }
         // on whichever places it was begun
         ensures planned { (s t : Space) → IsBegun self.old.blocks self.old.places self.old.changed s begun t

@@ -1,8 +1,8 @@
 pub mod Geometry
 pub mod KeyLemmas
 pub mod BlockLemmas
-pub mod Loops
+mod Loops
 pub mod RowLaws
 pub mod WriteLaws
 pub mod EarlyLemmas
-pub mod Examples
+mod Examples

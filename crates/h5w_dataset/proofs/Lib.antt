@@ -1,5 +1,5 @@
-pub mod ChunkLemmas
+mod ChunkLemmas
 pub mod DescribedLemmas
-pub mod FillLemmas
+mod FillLemmas
 pub mod ListedLemmas
-pub mod LinkLemmas
+mod LinkLemmas

@@ -6,10 +6,8 @@ ghost use Rattle.h5w_model.specs.Tables.{bands, chunks_across, format_limits, ke
 ghost use Rattle.h5w_dataset.specs.Described.{described_of};
 
 use crate::dataset::Dataset;
+use h5w_ea::CHUNKS;
 use h5w_layout::IndexKind;
-
-/// How many chunks an array has at most whose data blocks have no pages.
-const ARRAY: u64 = 131_060;
 
 /// How many chunks are read of a tree at most.
 const TREE: u64 = 1_000_000;
@@ -66,7 +64,7 @@ impl Dataset {
         ensures few { result ≤ 1000000 }
         ensures array { self.now.shape.growing ≡ false → result ≤ 131060 }
     {
-        if self.shape.growing { TREE } else { ARRAY }
+        if self.shape.growing { TREE } else { CHUNKS }
     }
 
     /// How many bytes a chunk has.

@@ -1,3 +1,4 @@
-pub mod Fixed
+mod Fixed
 pub mod PlaceLemmas
-pub mod Spelling
+mod Spelling
+mod SizeLemmas

@@ -3,6 +3,9 @@ ghost use Rattle.h5w_model.specs.Arrays.{place_of, slot_place_of, super_block_of
 
 use h5w_model::Place;
 
+/// How many chunks an array has at most whose data blocks have no pages.
+pub const CHUNKS: u64 = 131_060;
+
 /// How many slots the index block has.
 const INDEX_SLOTS: u64 = 4;
 
@@ -10,7 +13,7 @@ const INDEX_SLOTS: u64 = 4;
 const FIRST_SLOTS: u64 = 16;
 
 /// How many data blocks stand before super blocks 0 to 3, which the index block names.
-const NAMED_BEFORE: [u64; 4] = [0, 1, 2, 4];
+pub const NAMED_BEFORE: [u64; 4] = [0, 1, 2, 4];
 
 /// The data blocks of super block `s`, the slots of each, and the number of its first slot, counted after the
 /// first 4 of all ("The Extensible Array Index"; the geometry is this project's profile).

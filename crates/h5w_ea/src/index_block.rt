@@ -31,6 +31,12 @@ impl Eaib {
     /// How many bytes it has.
     pub const LEN: usize = 298;
 
+    /// Where the addresses of the data blocks of super blocks 0 to 3 begin.
+    pub const FIRST: usize = 46;
+
+    /// Where the addresses of secondary blocks begin.
+    pub const SECOND: usize = 94;
+
     /// The index block at the front of `b`, bytes that stand at place `at` of the image, or the first refusal.
     pub fn decode(b: &[u8], at: u64) -> Result<Eaib, BlockFault>
         requires { at + length b.now ≤ 2 ^ 64 }
@@ -40,8 +46,8 @@ impl Eaib {
         check_fixed(b, at, &FIXED)?;
         let (mut slots, mut first, mut second) = ([0; 4], [0; 6], [0; 25]);
         read_numbers(b, 14, &mut slots);
-        read_numbers(b, 46, &mut first);
-        read_numbers(b, 94, &mut second);
+        read_numbers(b, Eaib::FIRST, &mut first);
+        read_numbers(b, Eaib::SECOND, &mut second);
         Ok(Eaib {
             header: number(b, 6, 8),
             slots,
@@ -60,8 +66,8 @@ impl Eaib {
         put_head(out, &SIGNATURE, &FIXED);
         put(out, 6, 8, self.header);
         put_numbers(out, 14, &self.slots);
-        put_numbers(out, 46, &self.first);
-        put_numbers(out, 94, &self.second);
+        put_numbers(out, Eaib::FIRST, &self.first);
+        put_numbers(out, Eaib::SECOND, &self.second);
         seal_front(out, Eaib::LEN);
         Eaib::LEN
     }

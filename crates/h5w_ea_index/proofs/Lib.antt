@@ -1,20 +1,20 @@
-pub mod CleanLemmas
-pub mod ByteLemmas
+mod CleanLemmas
+mod ByteLemmas
 pub mod PartLemmas
-pub mod StoreLemmas
-pub mod ArrayLemmas
-pub mod OrderLemmas
+mod StoreLemmas
+mod ArrayLemmas
+mod OrderLemmas
 pub mod StepLemmas
-pub mod SetLemmas
-pub mod FreshLemmas
-pub mod TouchLemmas
-pub mod CountLemmas
+mod SetLemmas
+mod FreshLemmas
+mod TouchLemmas
+mod CountLemmas
 pub mod WayLemmas
-pub mod CreateLemmas
+mod CreateLemmas
 mod UnsetLemmas
-pub mod LoadingLemmas
+mod LoadingLemmas
 pub mod DecodedLemmas
-pub mod OpenedLemmas
-pub mod NamedLemmas
+mod OpenedLemmas
+mod NamedLemmas
 pub mod StandingLemmas
 mod RangeLemmas

@@ -13,7 +13,7 @@ use Rattle.h5w_cache.specs.Blocks.{BlockView, numbered, with_number}
 use Rattle.h5w_cache.specs.Plans.{bytes_of, bytes_in}
 use Rattle.h5w_cache.specs.Stores.{Store, block_of, is_changed, is_listed, changed_to}
 use Rattle.h5w_laws.proofs.ApartLemmas.{all_as}
-use Rattle.h5w_visit_laws.specs.Ranges.{chunk_at}
+use Rattle.h5w_step_laws.specs.Ranges.{chunk_at}
 use Rattle.h5w_array_laws.specs.Among.{AreAmong}
 use Rattle.h5w_array_laws.specs.Parts.{Part, data_of, index_block, IsPart, number_of, head_of, sign_of, children, names_from, slot_count, slots_from, holder, slot_offset, visit_order}
 use Rattle.h5w_array_laws.specs.ArrayStores.{IsArray, IsBlock, IsHeaded, Names, block_at_part, header_place, address_in, map_of, slots_in, chunks_in, own_range, ranges_of, behind_of}

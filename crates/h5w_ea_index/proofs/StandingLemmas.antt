@@ -16,7 +16,7 @@ use Rattle.h5w_model.proofs.ArrayGeometry.{slot_place-stands}
 use Rattle.h5w_model.proofs.CheckedLemmas.{checked-passed}
 use Rattle.h5w_laws.proofs.ReachLemmas.{block_ok, both_ok, each_ok, first_ok, second_ok}
 use Rattle.h5w_laws.proofs.ResultLemmas.{HasAnswer, choice_ok}
-use Rattle.h5w_visit_laws.specs.Indexes.{IsIndex, behind_visit}
+use Rattle.h5w_step_laws.specs.Indexes.{IsIndex, behind_visit}
 use Rattle.h5w_cache.specs.Blocks.{BlockView}
 use Rattle.h5w_cache.specs.Plans.{bytes_of, bytes_in}
 use Rattle.h5w_cache.specs.Stores.{Store, block_of, place_of}

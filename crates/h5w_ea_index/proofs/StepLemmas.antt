@@ -14,7 +14,7 @@ use Rattle.h5w_cache.specs.Plans.{bytes_of, bytes_in}
 use Rattle.h5w_cache.specs.Stores.{Store, block_of, place_of, place_in, is_changed, is_listed, times, marked}
 use Rattle.h5w_cache.specs.StoreLaws.{IsPlaced, Standing, range_of}
 use Rattle.h5w_laws.proofs.ApartLemmas.{all_as}
-use Rattle.h5w_visit_laws.specs.Ranges.{block_at}
+use Rattle.h5w_step_laws.specs.Ranges.{block_at}
 use Rattle.h5w_array_laws.specs.Parts.{Part, index_block, IsPart, number_of, length_of, slot_count, slots_from, holder, slot_offset, visit_order}
 use Rattle.h5w_array_laws.specs.ArrayStores.{HasHead, IsHeaded, block_at_part, place_at_part, header_place, address_in, map_of, slots_in, chunks_in, own_range, ranges_of, behind_of}
 use Rattle.h5w_array_laws.specs.ArrayImages.{StandsArray}

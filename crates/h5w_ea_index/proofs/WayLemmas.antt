@@ -14,7 +14,7 @@ use Rattle.h5w_cache.specs.Blocks.{BlockView, numbered}
 use Rattle.h5w_cache.specs.Plans.{bytes_of}
 use Rattle.h5w_cache.specs.Stores.{Store, block_of, place_of, is_changed, changed_to, marked, kept_under, times}
 use Rattle.h5w_model.specs.Findings.{Used}
-use Rattle.h5w_visit_laws.specs.Ranges.{chunk_at}
+use Rattle.h5w_step_laws.specs.Ranges.{chunk_at}
 use Rattle.h5w_array_laws.specs.Among.{AreAmong}
 use Rattle.h5w_array_laws.specs.Parts.{Part, data_of, secondary_of, index_block, header, IsPart, number_of, length_of, children, slot_count, holder, slot_offset, visit_order, parent, stays_in_place}
 use Rattle.h5w_array_laws.specs.ArrayStores.{IsArray, IsNumbered, IsMaxSet, block_at_part, place_at_part, header_place, address_in, map_of, total, one_secondary, one_data, secondary_bytes, data_bytes, behind_of}

@@ -6,7 +6,7 @@ use Rattle.h5w_model.specs.Tables.{address_behind, in_place}
 use Rattle.h5w_model.specs.declared.cell.Key.{Key}
 use Rattle.h5w_model.specs.Findings.{Used}
 use Rattle.h5w_model.specs.declared.cell.IndexKind.TheVariants.{Array}
-use Rattle.h5w_visit_laws.specs.Indexes.{IsIndex}
+use Rattle.h5w_step_laws.specs.Indexes.{IsIndex}
 use Rattle.h5w_cache.specs.Stores.{Store}
 use Rattle.h5w_array_laws.specs.ArrayStores.{IsArray, blocks_in_place, header_place, map_of}
 use Rattle.h5w_array_laws.specs.ArrayImages.{StandsArray}

@@ -5,7 +5,7 @@ use Rattle.h5w_space.specs.Space.{Space}
 use Rattle.h5w_cache.specs.Stores.{Store, block_of, place_of, is_changed}
 use Rattle.h5w_array_laws.specs.Parts.{Part, index_block, header, holder, number_of, parent}
 use Rattle.h5w_cache.specs.StoreLaws.{Standing}
-use Rattle.h5w_visit_laws.specs.Ranges.{chunk_at}
+use Rattle.h5w_step_laws.specs.Ranges.{chunk_at}
 use Rattle.h5w_array_laws.specs.Among.{AreAmong}
 use Rattle.h5w_array_laws.specs.ArrayStores.{IsHeaded, map_of, behind_of}
 use Rattle.h5w_array_laws.specs.ArrayImages.{StandsArray}

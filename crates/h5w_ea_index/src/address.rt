@@ -15,11 +15,9 @@ use crate::slot::{Holder, INDEX_BLOCK, locate};
 use crate::way::{hold_in_place, hold_way};
 use h5w_bytes::{UNDEFINED, number};
 use h5w_cache::Cache;
+use h5w_ea::CHUNKS;
 use h5w_model::OutOfMemory;
 use std::alloc::Global;
-
-/// How many chunks an array has at most whose data blocks have no pages.
-const CHUNKS: u64 = 131_060;
 
 /// The number under which the block that has a slot is kept.
 fn holder_number(holder: Holder) -> u32

@@ -10,7 +10,7 @@ ghost use Rattle.h5w_ea_index.specs.Opened.{IsBlockOf, past, refusal_of};
 use crate::fresh::{data_block, data_number, links_to, secondary_block, secondary_number};
 use crate::slot::INDEX_BLOCK;
 use h5w_cache::{Block, Link, Placement};
-use h5w_ea::{Eadb, Easb, super_block};
+use h5w_ea::{Eadb, Eaib, Easb, NAMED_BEFORE, super_block};
 use h5w_model::{BlockFault, OutOfMemory};
 use std::alloc::Global;
 
@@ -25,14 +25,6 @@ pub enum Copied {
 
 /// How many super blocks have their data blocks' addresses in the index block.
 const DIRECT: u32 = 4;
-
-/// How many data blocks stand before those super blocks.
-const NAMED_BEFORE: [usize; 4] = [0, 1, 2, 4];
-
-/// Where the addresses of data blocks begin in the index block, and those of secondary blocks.
-const FIRST_NAMES: usize = 46;
-
-const SECOND_NAMES: usize = 94;
 
 /// Where the addresses begin in a secondary block.
 const NAMES: usize = 18;
@@ -71,9 +63,9 @@ pub fn name_offset(part: Copied) -> usize
     match part {
         Copied::Data { sblock, block } if sblock >= DIRECT => NAMES + 8 * block as usize,
         Copied::Data { sblock, block } => {
-            FIRST_NAMES + 8 * (NAMED_BEFORE[sblock as usize] + block as usize)
+            Eaib::FIRST + 8 * (NAMED_BEFORE[sblock as usize] as usize + block as usize)
         }
-        Copied::Secondary { sblock } => SECOND_NAMES + 8 * (sblock - DIRECT) as usize,
+        Copied::Secondary { sblock } => Eaib::SECOND + 8 * (sblock - DIRECT) as usize,
     }
 }
 

@@ -82,7 +82,7 @@ fn index_block(alloc: Global, header: u64) -> Result<Block, OutOfMemory>
         second: [UNDEFINED; 25],
     };
     let bytes = index_bytes(alloc, &made)?;
-    let links = links(alloc, 46, &NAMED)?;
+    let links = links(alloc, Eaib::FIRST, &NAMED)?;
     let turn = u64::from(INDEX_BLOCK);
     Ok(Block::new(bytes, links, turn, Placement::InPlace, Eaib::LEN))
 }

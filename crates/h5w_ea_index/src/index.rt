@@ -23,7 +23,7 @@ use crate::plan::finish;
 use crate::ranges::ranges;
 use crate::slot::{HEADER, INDEX_BLOCK, bytes};
 use h5w_bytes::UNDEFINED;
-use h5w_cache::{Begun, Cache, Plan, PlanError};
+use h5w_cache::{BlockFlush, Cache, Plan, PlanError};
 use h5w_image::PieceRead;
 use h5w_model::OutOfMemory;
 use h5w_space::{Extent, Places};
@@ -218,7 +218,7 @@ impl ArrayIndex {
     /// secondary blocks take new ones, and those that they had are retired, where they are live.
     ///
     /// The array does not change. After a refusal the places are of no use: some are taken.
-    pub fn begin(&self, places: &mut Places) -> Result<Begun, PlanError>
+    pub fn begin(&self, places: &mut Places) -> Result<BlockFlush, PlanError>
         ensures begun { IfOk result (λ b. IsBegun self.now.blocks self.now.places self.now.changed places.old b places.new) }
         // the first block in turn that has no room
         ensures full { IfErr result (λ e. IfFull e (HasNoRoom self.now.blocks self.now.places self.now.changed places.old)) }
@@ -235,7 +235,7 @@ impl ArrayIndex {
     /// new places, the index block and the header where they stand. All are clean from then on.
     ///
     /// It cannot fail.
-    pub fn finish(&mut self, begun: Begun) -> Plan
+    pub fn finish(&mut self, begun: BlockFlush) -> Plan
         requires { WasBegun self.old.blocks self.old.places self.old.changed begun }
         // on whichever places it was begun
         ensures planned { (s t : Space) → IsBegun self.old.blocks self.old.places self.old.changed s begun t

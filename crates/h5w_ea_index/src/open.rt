@@ -79,7 +79,7 @@ fn index_block_at<I: PieceRead>(
     let bytes = bytes_at(alloc, image, at, Eaib::LEN)?;
     check_index(&bytes, at)?;
     check_end(at, Eaib::LEN)?;
-    let links = links(alloc, 46, &NAMED)?;
+    let links = links(alloc, Eaib::FIRST, &NAMED)?;
     let turn = u64::from(INDEX_BLOCK);
     Ok(Block::new(bytes, links, turn, Placement::InPlace, Eaib::LEN))
 }

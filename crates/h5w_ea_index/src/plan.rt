@@ -6,10 +6,10 @@ ghost use Rattle.h5w_cache.specs.Starts.{IsBegun, WasBegun, copy_pieces, in_plac
 ghost use Rattle.h5w_array_laws.specs.ArrayStores.{IsArray, IsNumbered};
 ghost use Rattle.h5w_array_laws.specs.ArrayPlans.{IsArrayPlan};
 
-use h5w_cache::{Begun, Cache, Plan};
+use h5w_cache::{BlockFlush, Cache, Plan};
 
 /// The writes of all changed blocks, those in place last, of a plan that was begun of this store.
-pub fn finish(cache: &mut Cache, begun: Begun) -> Plan
+pub fn finish(cache: &mut Cache, begun: BlockFlush) -> Plan
     requires array { IsArray cache.old }
     requires begun { WasBegun cache.old.blocks cache.old.places cache.old.changed begun }
     ensures planned { (s t : Space) → IsBegun cache.old.blocks cache.old.places cache.old.changed s begun t

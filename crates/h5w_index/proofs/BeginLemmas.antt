@@ -9,10 +9,10 @@ use Rattle.h5w_model.specs.declared.piece.Write.{Write}
 use Rattle.h5w_model.proofs.ImageLemmas.{range-apply_missed}
 use Rattle.h5w_model.specs.Findings.{Used, chunk_bytes}
 use Rattle.h5w_model.specs.declared.cell.IndexKind.TheVariants as kinds
-use Rattle.h5w_visit_laws.specs.Ranges.{Among, block_at}
-use Rattle.h5w_visit_laws.specs.Indexes.{behind_visit}
-use Rattle.h5w_visit_laws.proofs.RangeLemmas.{among_left, among_right, among_split, ends_later}
-use Rattle.h5w_visit_laws.proofs.IndexLaws.{index_by_end}
+use Rattle.h5w_step_laws.specs.Ranges.{Among, block_at}
+use Rattle.h5w_step_laws.specs.Indexes.{behind_visit}
+use Rattle.h5w_step_laws.proofs.RangeLemmas.{among_left, among_right, among_split, ends_later}
+use Rattle.h5w_step_laws.proofs.IndexLaws.{index_by_end}
 use Rattle.h5w_space.specs.Space.{Space}
 use Rattle.h5w_cache.specs.Stores.{Store, place_of}
 use Rattle.h5w_cache.specs.Plans.{bytes_in}

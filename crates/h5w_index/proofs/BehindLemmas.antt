@@ -7,7 +7,7 @@ use Rattle.h5w_model.specs.Numbers.{undefined}
 use Rattle.h5w_model.specs.Datasets.{Described}
 use Rattle.h5w_model.specs.Findings.{Used, chunk_bytes}
 use Rattle.h5w_model.specs.declared.cell.Key.{Key}
-use Rattle.h5w_visit_laws.specs.Ranges.{chunk_at}
+use Rattle.h5w_step_laws.specs.Ranges.{chunk_at}
 use Rattle.h5w_space.specs.Space.{Space, extent}
 use Rattle.h5w_space.specs.declared.Extent.{Extent}
 use Rattle.h5w_cache.specs.Plans.{Took}

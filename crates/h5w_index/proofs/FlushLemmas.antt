@@ -7,8 +7,8 @@ use Rattle.h5w_model.specs.Images.{image}
 use Rattle.h5w_model.specs.Findings.{Used, chunk_bytes}
 use Rattle.h5w_model.specs.declared.cell.Key.{Key}
 use Rattle.h5w_model.specs.declared.piece.Write.{Write}
-use Rattle.h5w_visit_laws.specs.Ranges.{AllEndBy, block_at}
-use Rattle.h5w_visit_laws.proofs.RangeLemmas.{among_right}
+use Rattle.h5w_step_laws.specs.Ranges.{AllEndBy, block_at}
+use Rattle.h5w_step_laws.proofs.RangeLemmas.{among_right}
 use Rattle.h5w_space.specs.Space.{Apart, IsLive, Space}
 use Rattle.h5w_space.specs.declared.Extent.{Extent}
 use Rattle.h5w_cache.specs.StoreLaws.{Standing, range_of}

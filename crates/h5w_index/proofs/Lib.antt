@@ -1,7 +1,7 @@
-pub mod ArrayBehindLemmas
+mod ArrayBehindLemmas
 pub mod ToldLemmas
-pub mod SetLemmas
-pub mod CountLemmas
+mod SetLemmas
+mod CountLemmas
 pub mod RaisedLemmas
 pub mod ArrayBoundLemmas
 pub mod TreeBoundLemmas

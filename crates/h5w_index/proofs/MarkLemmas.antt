@@ -22,8 +22,8 @@ use Rattle.h5w_tree_index_laws.proofs.TreeChangeLemmas.{inserted_changes}
 use Rattle.h5w_tree_index_laws.proofs.TreeMarkLemmas.{inserted_marks}
 use Rattle.h5w_index.specs.Views.{IndexView, an_array, a_tree, IsClean, IsSound}
 use Rattle.h5w_index.specs.Steps.{IsBegun, IsHeld, IsSet, IsUnset, ListsOnce, TreeSet, blank}
-use Rattle.h5w_index.specs.declared.begun.Begun.{Begun}
-use Rattle.h5w_index.specs.declared.begun.Begun.TheVariants.{Array, Tree}
+use Rattle.h5w_index.specs.declared.flush.IndexFlush.{IndexFlush}
+use Rattle.h5w_index.specs.declared.flush.IndexFlush.TheVariants.{Array, Tree}
 use Rattle.h5w_index.specs.Marks.{ArrayMarked, FullBounds, IsMarked, IsRaised, IsTouched, MarkLaws, PlanBounds, TreeMarked}
 use Rattle.h5w_index.proofs.ArrayBoundLemmas.{array_begun, array_bound, array_full}
 use Rattle.h5w_index.proofs.ToldLemmas.{unset_record}
@@ -185,7 +185,7 @@ plan_bounds d from to (an_array v) s ms copies fixed (a_tree q w) t is m plan = 
 plan_bounds d from to (a_tree p v) s ms copies fixed (an_array w) t is m plan = absurd plan
 
 -- a plan that is begun raises the end by no more
-pub begun_bound : (d : Described) (from to : ℕ) (v : IndexView) (s : Space) (b : Begun) (t : Space) → IsSound v → IsMarked d from to v → ListsOnce v → IsBegun v s b t → IsRaised s t (touched d from to * 16428)
+pub begun_bound : (d : Described) (from to : ℕ) (v : IndexView) (s : Space) (b : IndexFlush) (t : Space) → IsSound v → IsMarked d from to v → ListsOnce v → IsBegun v s b t → IsRaised s t (touched d from to * 16428)
 begun_bound d from to (an_array v) s (Array b) t is m once x = array_begun d from to v is m s b t once x
 begun_bound d from to (a_tree p v) s (Tree b) t is m once x = tree_begun d from to p v is.index m s b t x
 begun_bound d from to (an_array v) s (Tree b) t is m once x = absurd x

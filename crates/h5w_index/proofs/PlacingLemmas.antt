@@ -18,11 +18,11 @@ use Rattle.h5w_chunks.specs.Grids.{chunk_len}
 use Rattle.h5w_chunks.specs.Shares.{first_line, touched, touched_band, touched_key}
 use Rattle.h5w_chunks.proofs.KeyLemmas.{first_line_grows, touched_low}
 use Rattle.h5w_chunks.specs.declared.grid.ChunkPlace.{ChunkPlace}
-use Rattle.h5w_header_laws.specs.Files.{with_rows}
+use Rattle.h5w_step_laws.specs.Files.{with_rows}
 use Rattle.h5w_flush_laws.proofs.NewChunkLemmas.{same_len}
 use Rattle.h5w_index.specs.Views.{IndexView, IsReached, IsSound, address_in, is_key}
 use Rattle.h5w_index.specs.Steps.{IsBegun, IsHeld, IsPlan, IsSet, ListsOnce}
-use Rattle.h5w_index.specs.declared.begun.Begun.{Begun}
+use Rattle.h5w_index.specs.declared.flush.IndexFlush.{IndexFlush}
 use Rattle.h5w_index.specs.Told.{SameMap}
 use Rattle.h5w_index.specs.Marks.{IsMarked, IsRaised, IsTouched}
 use Rattle.h5w_index.specs.Placing.{AllPlaced, AreInside, Fits, IsPlacing, next_key}
@@ -182,7 +182,7 @@ all_raised : (d : Described) (to : ℕ) (v held w : IndexView) (s between t : Sp
 all_raised d to v held w s between t early chunks added ms copies fixed all marks x y plan =
     with_blocks d to (address_in v) early s between t chunks all y (plan_bounds d d.shape.rows to held between ms copies fixed w t x.partly.like.sound (x.partly.marks marks) plan).raised
 
-begun_raised : (d : Described) (to : ℕ) (v held : IndexView) (s between t : Space) (early chunks : List ChunkPlace) (added : List Key) (b : Begun) → length chunks ≡ touched d d.shape.rows to → IsMarked d d.shape.rows to v
+begun_raised : (d : Described) (to : ℕ) (v held : IndexView) (s between t : Space) (early chunks : List ChunkPlace) (added : List Key) (b : IndexFlush) → length chunks ≡ touched d d.shape.rows to → IsMarked d d.shape.rows to v
     → AreNamed d to v chunks added held → AreTakenBehind d (address_in v) early s chunks between → ListsOnce held → IsBegun held between b t → IsRaised s t (most_of d to)
 begun_raised d to v held s between t early chunks added b all marks x y once begun =
     with_blocks d to (address_in v) early s between t chunks all y (begun_bound d d.shape.rows to held between b t x.partly.like.sound (x.partly.marks marks) once begun)

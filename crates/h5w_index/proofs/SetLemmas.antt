@@ -3,7 +3,7 @@ use Rattle.std.proofs.Common.{◌≡◌, ℕ, ◌+◌, ◌<◌, true, List, ◌�
 use Rattle.std.specs.Prelude.{◌==◌, max, if◌then◌else◌}
 use Rattle.h5w_model.specs.Findings.{Used}
 use Rattle.h5w_cache.specs.Stores.{Store, is_changed}
-use Rattle.h5w_visit_laws.specs.Ranges.{chunk_at}
+use Rattle.h5w_step_laws.specs.Ranges.{chunk_at}
 use Rattle.h5w_array_laws.specs.Among.{AreAmong}
 use Rattle.h5w_array_laws.specs.Parts.{holder, number_of}
 use Rattle.h5w_array_laws.specs.ArrayStores.{IsArray, IsNumbered, behind_of}

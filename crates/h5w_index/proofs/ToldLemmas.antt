@@ -9,7 +9,7 @@ use Rattle.h5w_model.specs.declared.cell.Key.{Key}
 use Rattle.h5w_space.specs.Space.{Space}
 use Rattle.h5w_cache.specs.Stores.{Store, is_changed, place_of}
 use Rattle.h5w_cache.specs.StoreLaws.{Standing}
-use Rattle.h5w_visit_laws.specs.Ranges.{block_at, chunk_at}
+use Rattle.h5w_step_laws.specs.Ranges.{block_at, chunk_at}
 use Rattle.h5w_array_laws.specs.Among as array_words
 use Rattle.h5w_array_laws.specs.Parts.{holder, number_of}
 use Rattle.h5w_array_laws.specs.ArrayStores as arrays

@@ -12,10 +12,10 @@ use Rattle.h5w_cache.specs.declared.moves.Move.{Move}
 use Rattle.h5w_chunks.specs.Grids.{chunk_len}
 use Rattle.h5w_chunks.specs.Shares.{touched, touched_band}
 use Rattle.h5w_chunks.specs.declared.grid.ChunkPlace.{ChunkPlace}
-use Rattle.h5w_header_laws.specs.Files.{with_rows}
+use Rattle.h5w_step_laws.specs.Files.{with_rows}
 use Rattle.h5w_index.specs.Views.{IndexView, IsReached, IsSound, address_in}
 use Rattle.h5w_index.specs.Steps.{IsBegun, IsHeld, IsPlan, IsSet, IsUnset, ListsOnce}
-use Rattle.h5w_index.specs.declared.begun.Begun.{Begun}
+use Rattle.h5w_index.specs.declared.flush.IndexFlush.{IndexFlush}
 use Rattle.h5w_index.specs.Told.{HeldTold, SameMap}
 use Rattle.h5w_index.specs.Marks.{IsMarked, IsRaised, IsTouched}
 use Rattle.h5w_index.specs.Placing.{AllPlaced, AreInside, Fits, IsPartly, IsPlacing, next_key}
@@ -54,7 +54,7 @@ pub record PlacingLaws : Type 0 where
   pub raised : (d : Described) (to : ℕ) (v held w : IndexView) (s between t : Space) (early chunks : List ChunkPlace) (added : List Key) (ms : List Move) (copies fixed : List Write) → length chunks ≡ touched d d.shape.rows to
       → IsMarked d d.shape.rows to v → AreNamed d to v chunks added held → AreTakenBehind d (address_in v) early s chunks between → IsPlan held between ms copies fixed w t → IsRaised s t (most_of d to)
   -- by no more if the plan is begun
-  pub begun : (d : Described) (to : ℕ) (v held : IndexView) (s between t : Space) (early chunks : List ChunkPlace) (added : List Key) (b : Begun) → length chunks ≡ touched d d.shape.rows to
+  pub begun : (d : Described) (to : ℕ) (v held : IndexView) (s between t : Space) (early chunks : List ChunkPlace) (added : List Key) (b : IndexFlush) → length chunks ≡ touched d d.shape.rows to
       → IsMarked d d.shape.rows to v → AreNamed d to v chunks added held → AreTakenBehind d (address_in v) early s chunks between → ListsOnce held → IsBegun held between b t → IsRaised s t (most_of d to)
   pub full : (d : Described) (to : ℕ) (v : IndexView) (early : List ChunkPlace) (s : Space) (full : Full) → 0 < chunk_len d → 0 < touched d d.shape.rows to → IsMarked d d.shape.rows to v → IsFullPart d to v early s full
       → FullPartBound d to s full

@@ -21,8 +21,8 @@ use Rattle.h5w_bt_index.specs.Index.{Index, IsReplaced, inserted}
 use Rattle.h5w_bt_nodes.specs.Blocks.{changes}
 use Rattle.h5w_bt_index.specs.Plans as nodes
 use Rattle.h5w_index.specs.Views.{IndexView, an_array, a_tree}
-use Rattle.h5w_index.specs.declared.begun.Begun.{Begun}
-use Rattle.h5w_index.specs.declared.begun.Begun.TheVariants.{Array, Tree}
+use Rattle.h5w_index.specs.declared.flush.IndexFlush.{IndexFlush}
+use Rattle.h5w_index.specs.declared.flush.IndexFlush.TheVariants.{Array, Tree}
 
 -- ---- The blocks on the way to a key
 
@@ -93,27 +93,27 @@ IsUnset key (a_tree p v) (an_array w) = ⊥
 -- ---- The plan of what changed
 
 -- how many pieces the copies of a plan that is begun will be, and those of the blocks in place
-abbrev pub copy_pieces : Begun → ℕ
+abbrev pub copy_pieces : IndexFlush → ℕ
 copy_pieces (Array b) = stores.copy_pieces b
 copy_pieces (Tree b) = length b.copies
 
-abbrev pub in_place_pieces : Begun → ℕ
+abbrev pub in_place_pieces : IndexFlush → ℕ
 in_place_pieces (Array b) = stores.in_place_pieces b
 in_place_pieces (Tree b) = length b.in_place
 
-abbrev pub moves_of : Begun → List Move
+abbrev pub moves_of : IndexFlush → List Move
 moves_of (Array b) = b.moves
 moves_of (Tree b) = b.moves
 
 -- it was begun of this index, on places that are others then: the copies have their places, and those that their blocks had are retired
-abbrev pub IsBegun : IndexView → Space → Begun → Space → Type 0
+abbrev pub IsBegun : IndexView → Space → IndexFlush → Space → Type 0
 IsBegun (an_array v) s (Array b) t = stores.IsBegun v.blocks v.places v.changed s b t
 IsBegun (a_tree p v) s (Tree b) t = nodes.IsBegun p v s b t
 IsBegun (an_array v) s (Tree b) t = ⊥
 IsBegun (a_tree p v) s (Array b) t = ⊥
 
 -- it was begun of this index, on some places
-abbrev pub WasBegun : IndexView → Begun → Type 0
+abbrev pub WasBegun : IndexView → IndexFlush → Type 0
 WasBegun (an_array v) (Array b) = stores.WasBegun v.blocks v.places v.changed b
 WasBegun (a_tree p v) (Tree b) = nodes.WasBegun p v b
 WasBegun (an_array v) (Tree b) = ⊥

@@ -4,7 +4,7 @@ use Rattle.h5w_model.specs.Numbers.{undefined}
 use Rattle.h5w_model.specs.declared.cell.Key.{Key}
 use Rattle.h5w_space.specs.Space.{Space}
 use Rattle.h5w_cache.specs.Stores.{is_changed, place_of}
-use Rattle.h5w_visit_laws.specs.Ranges.{chunk_at}
+use Rattle.h5w_step_laws.specs.Ranges.{chunk_at}
 use Rattle.h5w_array_laws.specs.Among.{AreAmong}
 use Rattle.h5w_bt_index.specs.Index.{IsClean, KeepsShares}
 use Rattle.h5w_bt_index.specs.Marks.{Part}

@@ -11,7 +11,7 @@ ghost use Rattle.h5w_index.specs.Views.{HasSlot, IsClean, IsReached, IsSound, Ta
 ghost use Rattle.h5w_ea_index.specs.Steps.{found};
 ghost use Rattle.h5w_index.specs.Steps.{ArrayHeld, ArraySet, HasNoPlace, IsBegun, IsDeep, IsHeld, IsPlan, IsSet, IsUnset, ListsOnce, TookSome, WasBegun, copy_pieces, in_place_pieces, moves_of};
 
-use crate::begun::Begun;
+use crate::flush::IndexFlush;
 use h5w_bt_index::{InsertError, Key, TreeIndex};
 use h5w_cache::{Plan, PlanError};
 use h5w_ea_index::ArrayIndex;
@@ -173,7 +173,7 @@ impl Index {
     ///
     /// The index does not change. After a refusal the places are of no use: some are taken.
     #[tactic(auto, using(h5w_bt_index::proofs::Laws::index_shaped))]
-    pub fn begin(&self, places: &mut Places) -> Result<Begun, PlanError>
+    pub fn begin(&self, places: &mut Places) -> Result<IndexFlush, PlanError>
         requires { IsSound (view_of self.now) }
         ensures begun { IfOk result (λ b. IsBegun (view_of self.now) places.old b places.new) }
         // the first block in turn that has no place
@@ -184,8 +184,8 @@ impl Index {
         ensures once { ListsOnce (view_of self.now) }
     {
         match self {
-            Index::Array(index) => Ok(Begun::Array(index.begin(places)?)),
-            Index::Tree(index) => Ok(Begun::Tree(index.begin(places)?)),
+            Index::Array(index) => Ok(IndexFlush::Array(index.begin(places)?)),
+            Index::Tree(index) => Ok(IndexFlush::Tree(index.begin(places)?)),
         }
     }
 
@@ -194,7 +194,7 @@ impl Index {
     ///
     /// It cannot fail.
     #[tactic(auto, using(h5w_bt_index::proofs::Laws::index_shaped))]
-    pub fn finish(&mut self, begun: Begun) -> Plan
+    pub fn finish(&mut self, begun: IndexFlush) -> Plan
         requires sound { IsSound (view_of self.old) }
         requires begun { WasBegun (view_of self.old) begun }
         ensures sound { IsSound (view_of self.new) }
@@ -208,12 +208,12 @@ impl Index {
     {
         match self {
             Index::Array(index) => match begun {
-                Begun::Array(begun) => index.finish(begun),
-                Begun::Tree(_) => unreachable!(),
+                IndexFlush::Array(begun) => index.finish(begun),
+                IndexFlush::Tree(_) => unreachable!(),
             },
             Index::Tree(index) => match begun {
-                Begun::Tree(begun) => index.finish(begun),
-                Begun::Array(_) => unreachable!(),
+                IndexFlush::Tree(begun) => index.finish(begun),
+                IndexFlush::Array(_) => unreachable!(),
             },
         }
     }

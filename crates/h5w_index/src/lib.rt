@@ -3,12 +3,12 @@
 //! HDF5 File Format Specification 3.0, "The Extensible Array Index" and "Version 2 B-trees".
 #![tactic(auto)]
 
-mod begun;
 mod blocks;
+mod flush;
 mod index;
 mod laws;
 
-pub use begun::Begun;
+pub use flush::IndexFlush;
 pub use h5w_bt_index::{InsertError, Key};
 pub use index::Index;
 pub use laws::{

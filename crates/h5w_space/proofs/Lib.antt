@@ -1,3 +1,3 @@
-pub mod Laid
-pub mod Edits
+mod Laid
+mod Edits
 pub mod Sound

@@ -113,6 +113,13 @@ impl Places {
         self.end
     }
 
+    /// How many bytes the file may have at most.
+    pub fn limit(&self) -> u64
+        ensures { result ≡ self.now.limit }
+    {
+        self.limit
+    }
+
     /// Makes room for `n` more retirements.
     pub fn reserve(&mut self, n: u64) -> Result<(), OutOfMemory>
         ensures room { IfOk result (λ _. self.new ≡ record self.old { spare = max self.old.spare n }) }

@@ -1,21 +1,21 @@
 ghost use Rattle.std.specs.Prelude.{◌≡◌};
 ghost use Rattle.h5w_index.specs.Steps.{copy_pieces, in_place_pieces};
 
-/// The plan of an index that is begun: it has all places and memory that it needs, and no block has changed yet.
+/// A flush of an index that is begun: its plan has all places and memory that it needs, and no block has changed yet.
 #[derive(Drop)]
-pub enum Begun {
-    Array(h5w_cache::Begun),
-    Tree(h5w_bt_index::Begun),
+pub enum IndexFlush {
+    Array(h5w_cache::BlockFlush),
+    Tree(h5w_bt_index::NodeFlush),
 }
 
-impl Begun {
+impl IndexFlush {
     /// How many pieces the writes of the copies will be.
     pub fn copies(&self) -> usize
         ensures { result ≡ copy_pieces self.now }
     {
         match self {
-            Begun::Array(begun) => begun.copies(),
-            Begun::Tree(begun) => begun.copies(),
+            IndexFlush::Array(begun) => begun.copies(),
+            IndexFlush::Tree(begun) => begun.copies(),
         }
     }
 
@@ -24,8 +24,8 @@ impl Begun {
         ensures { result ≡ in_place_pieces self.now }
     {
         match self {
-            Begun::Array(begun) => begun.in_place(),
-            Begun::Tree(begun) => begun.in_place(),
+            IndexFlush::Array(begun) => begun.in_place(),
+            IndexFlush::Tree(begun) => begun.in_place(),
         }
     }
 }
