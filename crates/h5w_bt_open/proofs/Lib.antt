@@ -1,12 +1,12 @@
-pub mod SpanLemmas
-pub mod FindLemmas
-pub mod CallLemmas
+mod SpanLemmas
+mod FindLemmas
+mod CallLemmas
 pub mod HeldLemmas
-pub mod RefusedLemmas
-pub mod NodeLemmas
-pub mod StepLemmas
-pub mod TreeLemmas
+mod RefusedLemmas
+mod NodeLemmas
+mod StepLemmas
+mod TreeLemmas
 pub mod VisitLemmas
-pub mod WalkLemmas
-pub mod NeededLemmas
-pub mod KeptLemmas
+mod WalkLemmas
+mod NeededLemmas
+mod KeptLemmas

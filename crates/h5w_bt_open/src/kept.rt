@@ -1,6 +1,6 @@
 //! A tree of a file that a session can keep.
 
-ghost use Rattle.std.specs.Prelude.{◌≡◌, ℕ, ◌+◌, ◌<◌, ◌≤◌, ◌^◌, ◌++◌, ◌↔◌, List, length, IfOk, IsTrue, OnOk, true};
+ghost use Rattle.std.specs.Prelude.{◌≡◌, ℕ, ◌+◌, ◌<◌, ◌≤◌, ◌^◌, ◌++◌, ◌↔◌, List, length, None, Some, IfOk, IsTrue, OnOk, true};
 ghost use Rattle.h5w_model.specs.Trees.{capacity_of};
 ghost use Rattle.h5w_looks.specs.Still.{IsStill};
 ghost use Rattle.h5w_bt_index.specs.Held.{header_place, view_of};
@@ -14,10 +14,9 @@ ghost use Rattle.h5w_bt_open.specs.Kept.{IfTree, KeptOrOther};
 ghost use Rattle.h5w_bt_open.specs.Needed.{ranges_from};
 
 use crate::error::OpenTreeError;
-use crate::span::is_below;
 use crate::tree::{keys_from, open};
 use crate::walk::Walk;
-use h5w_bt::{Key, Record};
+use h5w_bt::{Key, Record, is_below};
 use h5w_bt_index::{Root, TreeIndex};
 use h5w_image::PieceRead;
 use h5w_model::OutOfMemory;
@@ -88,7 +87,7 @@ fn is_rising(records: &[Record]) -> bool
     ensures { IsTrue result ↔ IsRising records.now }
 {
     for at in 1..records.len() {
-        if !is_below(records[at - 1].key, records[at].key) {
+        if !is_below(&records[at - 1].key, &records[at].key) {
             return false;
         }
     }
@@ -105,6 +104,37 @@ pub enum Kept {
     /// A tree of which all do, but the keys do not rise.
     Unordered,
 }
+
+/// What keeps a session from a tree.
+#[derive(Clone, Copy)]
+enum Flaw {
+    /// Some node does not say how many records are under it.
+    Totals,
+    /// All nodes do, but the keys do not rise.
+    Order,
+}
+
+/// What keeps a session from a tree, if anything does.
+fn first_flaw(alloc: Global, tree: &TreeIndex) -> Result<Option<Flaw>, OutOfMemory>
+    requires { IsShaped (view_of tree.now) }
+    ensures none { IfOk result (λ o. o ≡ None → IsIndex (view_of tree.now)) }
+    ensures totals { IfOk result (λ o. o ≡ Some Flaw.Totals → IsSound (view_of tree.now).depth (capacity_of (view_of tree.now).depth) (view_of tree.now).root → ⊥) }
+    ensures sound { IfOk result (λ o. o ≡ Some Flaw.Order → IsSound (view_of tree.now).depth (capacity_of (view_of tree.now).depth) (view_of tree.now).root) }
+    ensures order { IfOk result (λ o. o ≡ Some Flaw.Order → IsRising (records (view_of tree.now)) → ⊥) }
+{
+    if !has_true_totals(tree.root()) {
+        return Ok(Some(Flaw::Totals));
+    }
+    let all = records(alloc, tree)?;
+    if is_rising(&all) {
+        Ok(None)
+    } else {
+        Ok(Some(Flaw::Order))
+    }
+}
+
+/// Lets a tree go. It has many parts, and each place that lets it go is dear to prove.
+fn release(_tree: TreeIndex) {}
 
 /// The tree whose header stands at `header`, where a session can keep it.
 ///
@@ -127,14 +157,23 @@ pub fn open_kept<I: PieceRead>(
     ensures fits { IfOk result (λ k. header + 38 < 2 ^ 64) }
     ensures exact { IfOk result (λ k. (img : List ℕ) → IsStill (I.view image.old) img → KeptOrOther img header first k) }
 {
-    let tree = open(alloc, image, header, first)?;
-    if !has_true_totals(tree.root()) {
-        return Ok(Kept::WrongTotals);
-    }
-    let all = records(alloc, &tree)?;
-    if is_rising(&all) {
-        Ok(Kept::Tree(tree))
-    } else {
-        Ok(Kept::Unordered)
+    let tree = match open(alloc, image, header, first) {
+        Ok(tree) => tree,
+        Err(error) => return Err(error),
+    };
+    match first_flaw(alloc, &tree) {
+        Ok(None) => Ok(Kept::Tree(tree)),
+        Ok(Some(Flaw::Totals)) => {
+            release(tree);
+            Ok(Kept::WrongTotals)
+        }
+        Ok(Some(Flaw::Order)) => {
+            release(tree);
+            Ok(Kept::Unordered)
+        }
+        Err(_) => {
+            release(tree);
+            Err(OpenTreeError::OutOfMemory)
+        }
     }
 }

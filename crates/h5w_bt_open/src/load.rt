@@ -4,7 +4,7 @@ ghost use Rattle.std.specs.Prelude.{◌≡◌, ◌≢◌, ℕ, suc, ◌+◌, ◌
 ghost use Rattle.std.specs.List.{All};
 ghost use Rattle.h5w_model.specs.Causes.{Rose};
 ghost use Rattle.h5w_model.specs.Numbers.{range};
-ghost use Rattle.h5w_model.specs.Trees.{btin_at, btin_len, btlf_at, capacity_of, pointer_size};
+ghost use Rattle.h5w_model.specs.Trees.{btin_at, btlf_at, capacity_of, pointer_size};
 ghost use Rattle.h5w_model.specs.declared.refusal.BlockFault.TheVariants.{Cut, OutOfMemory as no_memory};
 ghost use Rattle.h5w_image.specs.View.{Looked};
 ghost use Rattle.h5w_looks.specs.Still.{IsStill};
@@ -121,17 +121,6 @@ pub fn node_in(
             Ok(None)
         }
     }
-}
-
-/// How many bytes an inner node of so many records has.
-pub fn node_len(records: u64, depth: u64) -> u64
-    requires deep { 1 ≤ depth }
-    requires shallow { depth ≤ 3 }
-    requires few { records ≤ 84 }
-    ensures { result ≡ btin_len records depth }
-{
-    let pointer = if depth == 1 { 9 } else { 9 + depth };
-    10 + 24 * records + (records + 1) * pointer
 }
 
 /// Two records of one key, without an address.

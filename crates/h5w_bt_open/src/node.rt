@@ -13,9 +13,9 @@ ghost use Rattle.h5w_bt_open.specs.Spans.{IsProper, Leads, high_of, low_of};
 ghost use Rattle.h5w_bt_open.specs.Opened.{AreWhole, EachOpened, IsChild, IsHeld, IsLeafIn, IsOpened, IsRead, IsRefused, counted_node, looked_below, looked_up, nowhere_below, passed_of};
 
 use crate::error::OpenTreeError;
-use crate::load::{bytes_at, leaf_in, no_chunks, node_in, node_len};
+use crate::load::{bytes_at, leaf_in, no_chunks, node_in};
 use crate::span::{Span, high_of, low_behind, low_of, span_at};
-use h5w_bt::{Btin, Child, Record};
+use h5w_bt::{Btin, Child, Record, node_len};
 use h5w_bt_nodes::{Inner, Leaf, Subtree, count};
 use h5w_bytes::UNDEFINED;
 use h5w_image::PieceRead;
@@ -202,7 +202,7 @@ impl<C: Load> Load for Inner<C> {
         span: Option<Span>,
     ) -> Result<Inner<C>, OpenTreeError> {
         let depth = C::depth() + 1;
-        let len = node_len(child.records, depth);
+        let len = node_len(depth, child.records);
         let bytes = bytes_at(alloc, image, child.address, len)?;
         let node = node_in(
             alloc,

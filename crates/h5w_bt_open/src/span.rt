@@ -1,11 +1,10 @@
 //! The keys that lead to a node.
 
 ghost use Rattle.std.specs.Prelude.{◌≡◌, List, drop, IfSome};
-ghost use Rattle.h5w_model.specs.Tables.{key_below};
 ghost use Rattle.h5w_bt.specs.declared.records.Record.{Record as the_record};
 ghost use Rattle.h5w_bt_open.specs.Spans.{IsKey, after, before, high_of, low_behind, low_of, next_key, span_here, span_of};
 
-use h5w_bt::{Key, Record};
+use h5w_bt::{Key, Record, is_below};
 
 /// Keys from one on, up to another.
 #[derive(Clone, Copy, Debug)]
@@ -13,13 +12,6 @@ pub struct Span {
     pub from: Key,
     /// The first behind them; None where all later ones belong to them.
     pub to: Option<Key>,
-}
-
-/// Whether a key comes before another: by dimension 0, then 1.
-pub fn is_below(a: Key, b: Key) -> bool
-    ensures { result ≡ key_below a b }
-{
-    a.i < b.i || (a.i == b.i && a.j < b.j)
 }
 
 /// The next key; None after the greatest.
@@ -46,7 +38,7 @@ fn after(low: Option<Key>, key: Key) -> Option<Key>
 {
     match low {
         Some(low) => match next(key) {
-            Some(next) => Some(if is_below(low, next) { next } else { low }),
+            Some(next) => Some(if is_below(&low, &next) { next } else { low }),
             None => None,
         },
         None => None,
@@ -58,7 +50,7 @@ fn before(high: Option<Key>, key: Key) -> Option<Key>
     ensures { result ≡ before high key }
 {
     match high {
-        Some(high) => Some(if is_below(key, high) { key } else { high }),
+        Some(high) => Some(if is_below(&key, &high) { key } else { high }),
         None => Some(key),
     }
 }
@@ -70,7 +62,7 @@ fn between(low: Option<Key>, high: Option<Key>) -> Option<Span>
     match low {
         Some(low) => match high {
             Some(to) => {
-                if is_below(low, to) {
+                if is_below(&low, &to) {
                     Some(Span {
                         from: low,
                         to: Some(to),

@@ -1,11 +1,12 @@
 //! A tree that stands on an image.
 
-ghost use Rattle.std.specs.Prelude.{◌≡◌, ◌≢◌, ℕ, ◌+◌, ◌<◌, ◌≤◌, ◌^◌, List, length, IfErr, IfOk, IfSome, Ok, Err, true};
+ghost use Rattle.std.specs.Prelude.{◌≡◌, ◌≢◌, ℕ, suc, ◌+◌, ◌<◌, ◌≤◌, ◌^◌, List, length, IfErr, IfOk, IfSome, Ok, Err, true};
 ghost use Rattle.h5w_model.specs.Numbers.{range, undefined};
 ghost use Rattle.h5w_model.specs.Trees.{bthd_at, bthd_len, capacity_of};
 ghost use Rattle.h5w_looks.specs.Still.{IsStill};
 ghost use Rattle.h5w_bt.specs.Fields.{bthd_of};
 ghost use Rattle.h5w_bt.specs.Parts.{IsHeader, child_of};
+ghost use Rattle.h5w_bt_nodes.specs.Typed.{inner_of, leaf_of};
 ghost use Rattle.h5w_bt_index.specs.Held.{header_place, view_of};
 ghost use Rattle.h5w_bt_index.specs.Index.{IsShaped, index_of};
 ghost use Rattle.h5w_bt_index.specs.Marks.{clean_of};
@@ -19,6 +20,7 @@ use crate::node::Load;
 use crate::span::Span;
 use h5w_bt::{Bthd, Child, Key};
 use h5w_bt_index::{Root, TreeIndex};
+use h5w_bt_nodes::{Inner, Leaf};
 use h5w_bytes::UNDEFINED;
 use h5w_image::PieceRead;
 use std::alloc::Global;
@@ -60,21 +62,41 @@ pub fn keys_from(first: Key) -> Option<Span>
     })
 }
 
-/// The tree behind the pointer to a root, to which some keys lead. Its root says as many records under it as its children do.
-fn load_root<I: PieceRead, T: Load>(
+/// The leaf behind the pointer to a root, to which some keys lead.
+fn load_leaf<I: PieceRead>(
     alloc: Global,
     image: &mut I,
     child: Child,
     span: Option<Span>,
-) -> Result<T, OpenTreeError>
-    requires shallow { T.depth ≤ 3 }
-    requires few { child.records ≤ capacity_of T.depth }
+) -> Result<Leaf, OpenTreeError>
+    requires few { child.records ≤ capacity_of 0 }
     requires led { IfSome span IsProper }
-    ensures loads { Loads (I.view image.old) (I.view image.new) (λ img at f. IsRefused (looked_up img T.depth (child_of child)) (Leads span) at f) result }
-    ensures held { IfOk result (λ t. IsHeld T.depth (with_total (child_of child) (told_under T.depth (T.tree t))) (T.tree t)) }
-    ensures opened { IfOk result (λ t. (img : List ℕ) → IsStill (I.view image.old) img → IsOpened img T.depth (with_total (child_of child) (told_under T.depth (T.tree t))) span (T.tree t)) }
+    ensures loads { Loads (I.view image.old) (I.view image.new) (λ img at f. IsRefused (looked_up img 0 (child_of child)) (Leads span) at f) result }
+    ensures held { IfOk result (λ t. IsHeld 0 (with_total (child_of child) (told_under 0 (leaf_of t))) (leaf_of t)) }
+    ensures opened { IfOk result (λ t. (img : List ℕ) → IsStill (I.view image.old) img → IsOpened img 0 (with_total (child_of child) (told_under 0 (leaf_of t))) span (leaf_of t)) }
 {
-    let root = T::load(alloc, image, child, span)?;
+    Leaf::load(alloc, image, child, span)
+}
+
+/// The inner node behind the pointer to a root, to which some keys lead, with all that is under it. It says as many records under it as its
+/// children do.
+fn load_inner<I: PieceRead, C: Load>(
+    alloc: Global,
+    image: &mut I,
+    child: Child,
+    span: Option<Span>,
+) -> Result<Inner<C>, OpenTreeError>
+    requires shallow { suc C.depth ≤ 3 }
+    requires few { child.records ≤ capacity_of (suc C.depth) }
+    requires led { IfSome span IsProper }
+    ensures loads { Loads (I.view image.old) (I.view image.new) (λ img at f. IsRefused (looked_up img (suc C.depth) (child_of child)) (Leads span) at f) result }
+    ensures held { IfOk result (λ t. IsHeld (suc C.depth) (with_total (child_of child) (told_under (suc C.depth) (inner_of C.depth C.tree t))) (inner_of C.depth C.tree t)) }
+    ensures opened { IfOk result (λ t. (img : List ℕ) → IsStill (I.view image.old) img → IsOpened img (suc C.depth) (with_total (child_of child) (told_under (suc C.depth) (inner_of C.depth C.tree t))) span (inner_of C.depth C.tree t)) }
+{
+    let root: Inner<C> = match Inner::load(alloc, image, child, span) {
+        Ok(root) => root,
+        Err(error) => return Err(error),
+    };
     Ok(root.counted())
 }
 
@@ -99,10 +121,22 @@ fn root_at<I: PieceRead>(
         total: header.total,
     };
     match header.depth {
-        0 => Ok(Root::Zero(load_root(alloc, image, child, span)?)),
-        1 => Ok(Root::One(load_root(alloc, image, child, span)?)),
-        2 => Ok(Root::Two(load_root(alloc, image, child, span)?)),
-        _ => Ok(Root::Three(load_root(alloc, image, child, span)?)),
+        0 => match load_leaf(alloc, image, child, span) {
+            Ok(root) => Ok(Root::Zero(root)),
+            Err(error) => Err(error),
+        },
+        1 => match load_inner(alloc, image, child, span) {
+            Ok(root) => Ok(Root::One(root)),
+            Err(error) => Err(error),
+        },
+        2 => match load_inner(alloc, image, child, span) {
+            Ok(root) => Ok(Root::Two(root)),
+            Err(error) => Err(error),
+        },
+        _ => match load_inner(alloc, image, child, span) {
+            Ok(root) => Ok(Root::Three(root)),
+            Err(error) => Err(error),
+        },
     }
 }
 
@@ -128,6 +162,8 @@ pub fn open<I: PieceRead>(
     if found.root == UNDEFINED {
         return Ok(TreeIndex::new(alloc, header));
     }
-    let root = root_at(alloc, image, found, keys)?;
-    Ok(TreeIndex::standing(alloc, header, root))
+    match root_at(alloc, image, found, keys) {
+        Ok(root) => Ok(TreeIndex::standing(alloc, header, root)),
+        Err(error) => Err(error),
+    }
 }

@@ -10,9 +10,8 @@ ghost use Rattle.h5w_bt_open.specs.Needed.{needed_ranges, of_each};
 ghost use Rattle.h5w_space.specs.Ranges.{range_at};
 ghost use Rattle.h5w_bt_open.specs.Spans.{high_of, low_of};
 
-use crate::load::node_len;
 use crate::span::{Span, high_of, low_behind, low_of, span_at};
-use h5w_bt::Record;
+use h5w_bt::{Record, node_len};
 use h5w_bt_nodes::{Inner, Leaf, Subtree, count};
 use h5w_bytes::UNDEFINED;
 use h5w_model::OutOfMemory;
@@ -127,7 +126,7 @@ impl<C: Walk> Walk for Inner<C> {
         if span.is_none() {
             return Ok(());
         }
-        let len = node_len(self.records.len() as u64, C::depth() + 1);
+        let len = node_len(C::depth() + 1, self.records.len() as u64);
         add_range(self.place, len, out)?;
         add_ranges_below(&self.records, &self.children, span, out)
     }

@@ -4,14 +4,14 @@ use Rattle.std.specs.Prelude.{◌==◌, nat_lt}
 use Rattle.std.proofs.lemmas.Bool.{lt-ltb, le-ltb, ne_eqb, eq-eqb}
 use Rattle.h5w_model.specs.Numbers.{range, undefined}
 use Rattle.h5w_model.specs.Programs.{ret, whole, eval, and_then}
-use Rattle.h5w_model.specs.Arrays.{EahdFields, EaibFields, SlotsFields, eahd_at, eaib_at, easb_at, eahd_len, eaib_len, slots_len, super_block_of}
+use Rattle.h5w_model.specs.Arrays.{EahdFields, EaibFields, SlotsFields, eahd_at, eaib_at, easb_at, eadb_at, eahd_len, eaib_len, slots_len, super_block_of}
 use Rattle.h5w_model.specs.Tables.{super_block_of_first}
 use Rattle.h5w_model.specs.Datasets.{then_also}
-use Rattle.h5w_model.specs.Findings.{Used, Finding, Visited, found, chunk_ranges, block_in, both, visit_each, data_block_visit, secondary_block_visit, first_visits, second_visits, index_block_visit, array_visit, block_past_end, bad_index_header, bad_index_block, bad_secondary_block}
+use Rattle.h5w_model.specs.Findings.{Used, Finding, Visited, found, chunk_ranges, block_in, both, visit_each, data_block_visit, secondary_block_visit, first_visits, second_visits, index_block_visit, array_visit, block_past_end, bad_index_header, bad_index_block, bad_secondary_block, bad_data_block}
 use Rattle.h5w_model.specs.declared.refusal.BlockFault.{BlockFault}
 use Rattle.h5w_laws.proofs.ProgramLemmas.{eval_and_then}
 use Rattle.h5w_check.specs.Ranges.{after}
-use Rattle.h5w_check.specs.Blocks.{block_found, decoded, header_found, index_found, secondary_found}
+use Rattle.h5w_check.specs.Blocks.{block_found, data_found, decoded, header_found, index_found, secondary_found}
 use Rattle.h5w_check.proofs.RangeLemmas.{after_nil, behind_one, next_from}
 
 -- what a visit gives behind other ranges
@@ -61,6 +61,22 @@ run_absent img old p go e = ap (λ c. run img old (cond c (ret (Ok [])) go)) (eq
 
 pub run_there : (img : List ℕ) (old : List Used) (at : ℕ) (go : Visited) → (at ≡ undefined → ⊥) → run img old (cond (at == undefined) (ret (Ok [])) go) ≡ run img old go
 run_there img old p go other = ap (λ c. run img old (cond c (ret (Ok [])) go)) (ne_eqb p undefined other)
+
+-- ---- Data blocks
+
+run_slots : (img : List ℕ) (old : List Used) (end bytes at : ℕ) (r : Result SlotsFields BlockFault)
+    → run img old (elim r as (λ _. Visited) [ Ok d ↦ ret (chunk_ranges end bytes d.slots) | Err f ↦ ret (Err (found bad_data_block at)) ])
+    ≡ elim r as (λ _. Result (List Used) Finding) [ Ok d ↦ after old (chunk_ranges end bytes d.slots) | Err f ↦ Err (found bad_data_block at) ]
+run_slots img old end bytes p (Ok d) = refl
+run_slots img old end bytes p (Err f) = refl
+
+pub data_there : (img : List ℕ) (old : List Used) (end bytes n at : ℕ) → (at ≡ undefined → ⊥)
+    → run img old (data_block_visit end bytes n at) ≡ then_also (block_found end at (slots_len n) (slots_len n) old img) (λ x. data_found end bytes at n x.0 x.1)
+data_there img old end bytes n p other =
+    let visit : List ℕ → Visited = λ b. elim (eadb_at b p n) as (λ _. Visited) [ Ok d ↦ ret (chunk_ranges end bytes d.slots) | Err f ↦ ret (Err (found bad_data_block p)) ] in
+    run_there img old p (block_in end p (slots_len n) visit) other
+    ∙ run_block img old end p (slots_len n) visit
+    ∙ ap (then_also (block_found end p (slots_len n) (slots_len n) old img)) (λ i x. run_slots img x.1 end bytes p (eadb_at x.0 p n) i)
 
 -- ---- In a loop
 

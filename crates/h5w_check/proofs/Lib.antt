@@ -1,12 +1,12 @@
-pub mod FoundLemmas
-pub mod KnownLemmas
-pub mod VerdictLemmas
-pub mod CheckLemmas
-pub mod SpanLemmas
-pub mod TreeLemmas
-pub mod FallenLemmas
-pub mod ArrayLemmas
-pub mod RootLemmas
-pub mod PartLemmas
-pub mod HeaderLemmas
-pub mod RangeLemmas
+mod FoundLemmas
+mod KnownLemmas
+mod VerdictLemmas
+mod CheckLemmas
+mod SpanLemmas
+mod TreeLemmas
+mod FallenLemmas
+mod ArrayLemmas
+mod RootLemmas
+mod PartLemmas
+mod HeaderLemmas
+mod RangeLemmas

@@ -1,8 +1,6 @@
 //! The extensible array: its header, its index block, and the blocks behind it.
-ghost use Rattle.std.specs.Prelude.{◌≡◌, ◌+◌, ◌*◌, ◌≤◌, ◌^◌, length};
+ghost use Rattle.std.specs.Prelude.{◌+◌, ◌*◌, ◌≤◌, ◌^◌, length};
 ghost use Rattle.h5w_model.specs.Programs.{eval};
-ghost use Rattle.h5w_model.specs.Arrays.{super_block_of};
-ghost use Rattle.h5w_model.specs.Tables.{super_block_of_first};
 ghost use Rattle.h5w_model.specs.Findings.{array_visit, data_block_visit, first_visits, index_block_visit, second_visits, secondary_block_visit, visit_each};
 ghost use Rattle.h5w_ea.specs.Fields.{eaib_of};
 ghost use Rattle.h5w_check.specs.Ran.{Ran, Told, answering, seen};
@@ -13,7 +11,7 @@ use crate::block::block;
 use crate::error::CheckError;
 use crate::ranges::{Bounds, Ranges};
 use h5w_bytes::UNDEFINED;
-use h5w_ea::{Eadb, Eahd, Eaib, Easb, super_block};
+use h5w_ea::{Eadb, Eahd, Eaib, Easb, first_super_block, sizes, slots_len};
 use h5w_image::PieceRead;
 use h5w_model::BlockFault;
 use std::alloc::Global;
@@ -34,14 +32,6 @@ const DATA_BLOCK: u8 = 13;
 const FIRST_SECONDARY: u32 = 4;
 
 const LAST_SECONDARY: u32 = 12;
-
-/// How many bytes a block of `n` addresses has.
-fn slots_len(n: u64) -> u64
-    requires { n ≤ 1024 }
-    ensures { result ≡ 22 + 8 * n }
-{
-    22 + 8 * n
-}
 
 /// The chunks of the data block of `n` slots that these bytes at `at` are.
 fn put_slots(
@@ -146,31 +136,6 @@ fn secondary_block<I: PieceRead>(
     data_blocks(alloc, image, bounds, slots, s.slots.as_slice(), ranges)
 }
 
-/// How many data blocks super block `sblock` has, and how many slots each.
-fn sizes(sblock: u32) -> (u64, u64)
-    requires { sblock ≤ 12 }
-    ensures blocks { result.0 ≡ (super_block_of sblock).blocks }
-    ensures slots { result.1 ≡ (super_block_of sblock).slots }
-    ensures few_blocks { result.0 ≤ 1024 }
-    ensures few_slots { result.1 ≤ 1024 }
-{
-    let (blocks, slots, _) = super_block(sblock);
-    (blocks, slots)
-}
-
-/// The super block of a data block that the index block names.
-fn super_block_of_first(block: usize) -> u32
-    ensures exact { result ≡ super_block_of_first block }
-    ensures low { result ≤ 3 }
-{
-    match block {
-        0 => 0,
-        1 => 1,
-        2 | 3 => 2,
-        _ => 3,
-    }
-}
-
 /// Visits the data blocks that the index block names.
 fn first_blocks<I: PieceRead>(
     alloc: Global,
@@ -184,7 +149,7 @@ fn first_blocks<I: PieceRead>(
         (answering ranges.new result) }
 {
     for (i, address) in addresses.iter().enumerate() {
-        let (_, slots) = sizes(super_block_of_first(i));
+        let (_, slots) = sizes(first_super_block(i as u64));
         data_block(alloc, image, bounds, slots, *address, ranges)?;
     }
     Ok(())

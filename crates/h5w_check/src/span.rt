@@ -1,8 +1,8 @@
 //! What is known of the keys under a node of a tree.
 ghost use Rattle.std.specs.Prelude.{◌≡◌, ◌∷◌, [], ℕ};
-ghost use Rattle.h5w_model.specs.Tables.{key_below};
 ghost use Rattle.h5w_check.specs.Spans.{ends_joined, in_order, joined_spans, span_of};
 
+use h5w_bt::is_below;
 use h5w_model::Key;
 
 /// How many keys there are, at most 2^128 - 1 of them counted, the first and the last, and whether they rise.
@@ -11,13 +11,6 @@ pub struct Span {
     pub count: u128,
     pub ends: Option<(Key, Key)>,
     pub rising: bool,
-}
-
-/// Whether a key stands before another: by dimension 0, then 1.
-fn is_below(a: &Key, b: &Key) -> bool
-    ensures { result ≡ key_below a.now b.now }
-{
-    a.i < b.i || a.i == b.i && a.j < b.j
 }
 
 /// Whether the last key of the one stands before the first of the other.

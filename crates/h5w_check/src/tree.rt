@@ -1,7 +1,7 @@
 //! The version 2 B-tree: its header, and its nodes in the order of keys.
-ghost use Rattle.std.specs.Prelude.{◌≡◌, ◌+◌, ◌<◌, ◌≤◌, ◌^◌, ◌&&◌, ◌||◌, ◌==◌, [], ℕ, List, length, map, drop, not, true, IfOk, Some, IsSome, IsTrue};
+ghost use Rattle.std.specs.Prelude.{◌≡◌, ◌+◌, ◌<◌, ◌≤◌, ◌^◌, ◌&&◌, ◌||◌, ◌==◌, [], List, length, map, drop, not, true, IfOk, Some, IsSome, IsTrue};
 ghost use Rattle.h5w_model.specs.Programs.{eval};
-ghost use Rattle.h5w_model.specs.Trees.{btin_len, btlf_len, capacity_of};
+ghost use Rattle.h5w_model.specs.Trees.{capacity_of};
 ghost use Rattle.h5w_model.specs.Findings.{Used, children_under, node_visit, tree_visit};
 ghost use Rattle.h5w_bt.specs.Fields.{btin_of, bthd_of};
 ghost use Rattle.h5w_bt.specs.Parts.{record_of};
@@ -16,7 +16,7 @@ use crate::error::CheckError;
 use crate::known::KnownNodes;
 use crate::ranges::{Bounds, Ranges};
 use crate::span::Span;
-use h5w_bt::{Bthd, Btin, Btlf, Child, NODE, Record};
+use h5w_bt::{Bthd, Btin, Btlf, Child, NODE, Record, node_len};
 use h5w_bytes::UNDEFINED;
 use h5w_image::PieceRead;
 use h5w_model::BlockFault;
@@ -33,11 +33,6 @@ const WRONG_TOTAL: u8 = 15;
 
 /// The keys do not rise.
 const KEYS_NOT_RISING: u8 = 16;
-
-/// How many bytes stand around the records of a node, and how many a record has.
-const FRAME: u64 = 10;
-
-const RECORD: u64 = 24;
 
 /// What was found of the children and records of a node so far.
 #[derive(Clone, Copy)]
@@ -65,22 +60,6 @@ impl Under {
             });
         }
         Ok(self.span)
-    }
-}
-
-/// How many bytes a node of a depth with `n` records has, up to its sum.
-fn node_len(depth: u64, n: u64) -> u64
-    requires shallow { depth ≤ 3 }
-    requires few { n ≤ 84 }
-    ensures leaf { depth ≡ 0 → result ≡ btlf_len n }
-    ensures inner { (d : ℕ) → depth ≡ d + 1 → result ≡ btin_len n depth }
-{
-    let records = FRAME + RECORD * n;
-    match depth {
-        0 => records,
-        1 => records + (n + 1) * 9,
-        2 => records + (n + 1) * 11,
-        _ => records + (n + 1) * 12,
     }
 }
 

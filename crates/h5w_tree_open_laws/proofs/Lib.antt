@@ -1,5 +1,5 @@
-pub mod PointerLemmas
-pub mod PassedLemmas
+mod PointerLemmas
+mod PassedLemmas
 pub mod OpenedStandLemmas
 pub mod KeptLemmas
 pub mod OpenedEndLemmas

@@ -28,20 +28,19 @@ pub returns-then-found-clause-opened : goal.returns-then-found-clause-opened
 returns-then-found-clause-opened g c = λ img still.
     stands_empty img c.args.header c.args.first (bthd_of c.in_ok-found.found) (view_of c.new.result) (c.in_ok-found.ensures.stands img still) c.if-found.true c.new.ensures.tree
 
-pub returns-in_err-root-clause-loads : goal.returns-in_err-root-clause-loads
-returns-in_err-root-clause-loads g c =
-    let is : c.from_residual-in_err-root.result ≡ Err c.in_err-root.field-0.0 = search rules in
-    rw is (loads_within (λ img a f. IsRefused (looked_up img c.in_ok-found.found.depth (root_pointer (bthd_of c.in_ok-found.found) c.in_ok-found.found.total)) (Leads c.keys_from-keys.result) a f) (λ img a f. IsRefused (looked_in img c.args.header) (Leads (from_key c.args.first)) a f)
-    c.in_err-root.field-0.0 c.in_ok-found.ensures.loads.looked
+pub returns-in-Err-clause-loads : goal.returns-in-Err-clause-loads
+returns-in-Err-clause-loads g c =
+    loads_within (λ img a f. IsRefused (looked_up img c.in_ok-found.found.depth (root_pointer (bthd_of c.in_ok-found.found) c.in_ok-found.found.total)) (Leads c.keys_from-keys.result) a f) (λ img a f. IsRefused (looked_in img c.args.header) (Leads (from_key c.args.first)) a f)
+    c.in-Err.error c.in_ok-found.ensures.loads.looked
     (λ img still a f h. root_refused img c.args.header c.args.first (bthd_of c.in_ok-found.found) a f (c.in_ok-found.ensures.stands img still) (λ u. c.if-found.false u)
-    (subst (λ (o : Option Span). IsRefused (looked_up img c.in_ok-found.found.depth (root_pointer (bthd_of c.in_ok-found.found) c.in_ok-found.found.total)) (Leads o) a f) c.keys_from-keys.ensures.exact h)) c.in_err-root.ensures.loads)
+    (subst (λ (o : Option Span). IsRefused (looked_up img c.in_ok-found.found.depth (root_pointer (bthd_of c.in_ok-found.found) c.in_ok-found.found.total)) (Leads o) a f) c.keys_from-keys.ensures.exact h)) c.in-Err.ensures.loads
 
-pub returns-clause-loads : goal.returns-clause-loads
-returns-clause-loads g c = looks_alone (λ img a f. IsRefused (looked_in img c.args.header) (Leads (from_key c.args.first)) a f) _ (looked_twice c.in_ok-found.ensures.loads.looked c.root_at.ensures.loads.looked)
+pub returns-in-Ok-clause-loads : goal.returns-in-Ok-clause-loads
+returns-in-Ok-clause-loads g c = looks_alone (λ img a f. IsRefused (looked_in img c.args.header) (Leads (from_key c.args.first)) a f) _ (looked_twice c.in_ok-found.ensures.loads.looked c.root_at.ensures.loads.looked)
 
-pub returns-clause-opened : goal.returns-clause-opened
-returns-clause-opened g c = λ img still.
-    let r = index_of c.in_ok-root.root in
+pub returns-in-Ok-clause-opened : goal.returns-in-Ok-clause-opened
+returns-in-Ok-clause-opened g c = λ img still.
+    let r = index_of c.in-Ok.root in
     subst (λ (v : Index). IsStanding img c.args.header c.args.first v) (sym c.standing.ensures.tree)
-    (stands_root img c.args.header c.args.first (bthd_of c.in_ok-found.found) r (c.in_ok-found.ensures.stands img still) (λ u. c.if-found.false u) c.in_ok-root.ensures.depth
-    (subst (λ (o : Option Span). IsOpened img (index_of c.in_ok-root.root).depth (root_pointer (bthd_of c.in_ok-found.found) (told_under (index_of c.in_ok-root.root).depth (index_of c.in_ok-root.root).root)) o (index_of c.in_ok-root.root).root) c.keys_from-keys.ensures.exact (c.in_ok-root.ensures.opened img (still_on img c.in_ok-found.ensures.loads.looked still))))
+    (stands_root img c.args.header c.args.first (bthd_of c.in_ok-found.found) r (c.in_ok-found.ensures.stands img still) (λ u. c.if-found.false u) c.in-Ok.ensures.depth
+    (subst (λ (o : Option Span). IsOpened img (index_of c.in-Ok.root).depth (root_pointer (bthd_of c.in_ok-found.found) (told_under (index_of c.in-Ok.root).depth (index_of c.in-Ok.root).root)) o (index_of c.in-Ok.root).root) c.keys_from-keys.ensures.exact (c.in-Ok.ensures.opened img (still_on img c.in_ok-found.ensures.loads.looked still))))

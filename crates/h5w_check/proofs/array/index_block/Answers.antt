@@ -1,11 +1,34 @@
 use Rattle.std.proofs.Common.{◌≡◌, ◌∙◌, ℕ, List, Result, Err, rules}
 use Rattle.h5w_model.specs.Datasets.{then_also}
-use Rattle.h5w_model.specs.Findings.{Used, Finding, first_visits, second_visits}
+use Rattle.h5w_model.specs.Findings.{Used, Finding, chunk_ranges, first_visits, second_visits}
 use Rattle.h5w_ea.specs.Fields.{eaib_of}
 use Rattle.h5w_check.specs.Blocks.{index_found}
-use Rattle.h5w_headers.proofs.RanLemmas.{ran_on, ran_then_stop, step_ok, step_err}
+use Rattle.h5w_check.specs.Ranges.{after}
+use Rattle.h5w_headers.proofs.RanLemmas.{ran_on, ran_refused, ran_then_stop, step_ok, step_err}
 use Rattle.h5w_check.proofs.ArrayLemmas.{run, index_there, index_rest}
 use Rattle.h5w_check.proofs.array.index_block.Goals as goal
+
+pub returns-in_err-e : goal.returns-in_err-e
+returns-in_err-e g c =
+    let a = c.args in
+    let pair : List ℕ × List Used = (c.in_ok-b.b.items, c.block.new.ranges) in
+    let told = rw c.deref.ensures.value at c.in_err-e.ensures in
+    let is : c.from_residual-in_err-e.result ≡ Err c.in_err-e.field-0.0 = search rules in
+    rw is (ran_refused _ pair (index_found a.at c.in_ok-b.b.items) c.in_err-e.field-0.0 _ c.in_ok-b.ensures.ran told (λ img f said gone.
+    index_there img a.ranges.now a.bounds.now.end a.bounds.now.chunk a.at
+    ∙ step_ok _ pair (λ x. then_also (index_found a.at x.0) (index_rest img a.bounds.now.end a.bounds.now.chunk x.1)) said ∙ step_err _ f _ gone))
+
+pub returns-in_err-put_chunks : goal.returns-in_err-put_chunks
+returns-in_err-put_chunks g c =
+    let a = c.args in
+    let pair : List ℕ × List Used = (c.in_ok-b.b.items, c.block.new.ranges) in
+    let told = rw c.deref.ensures.value at c.in_ok-e.ensures in
+    let is : c.from_residual-in_err-put_chunks.result ≡ Err c.in_err-put_chunks.field-0.0 = search rules in
+    rw is (ran_refused _ pair (after c.block.new.ranges (chunk_ranges a.bounds.now.end a.bounds.now.chunk c.in_ok-e.e.slots)) c.in_err-put_chunks.field-0.0 _ c.in_ok-b.ensures.ran c.in_err-put_chunks.ensures (λ img f said gone.
+    index_there img a.ranges.now a.bounds.now.end a.bounds.now.chunk a.at
+    ∙ step_ok _ pair (λ x. then_also (index_found a.at x.0) (index_rest img a.bounds.now.end a.bounds.now.chunk x.1)) said
+    ∙ step_ok _ (eaib_of c.in_ok-e.e) (index_rest img a.bounds.now.end a.bounds.now.chunk c.block.new.ranges) told.exact
+    ∙ step_err _ f _ gone))
 
 pub returns-in_err-first_blocks : goal.returns-in_err-first_blocks
 returns-in_err-first_blocks g c =
