@@ -1,16 +1,15 @@
 pub mod PieceLemmas
-pub mod AddressLemmas
+mod AddressLemmas
 pub mod GatherLemmas
 pub mod TableLemmas
-pub mod StoreLemmas
-pub mod SizeLemmas
-pub mod SeekLemmas
-pub mod NodeLemmas
-pub mod IndexLemmas
+mod StoreLemmas
+mod SeekLemmas
+mod NodeLemmas
+mod IndexLemmas
 pub mod UnknownLemmas
-pub mod DescentLemmas
-pub mod AheadLemmas
-pub mod KeyLemmas
-pub mod PathLemmas
-pub mod SpanLemmas
+mod DescentLemmas
+mod AheadLemmas
+mod KeyLemmas
+mod PathLemmas
+mod SpanLemmas
 pub mod LookLemmas

@@ -12,8 +12,8 @@ use Rattle.h5w_lookup.specs.Seeking.{wait_given}
 use Rattle.h5w_lookup.specs.Stores.{kept}
 use Rattle.h5w_lookup.specs.declared.descent.Waiting.{Waiting}
 use Rattle.h5w_lookup.specs.declared.gather.Gather.{Gather}
-use Rattle.h5w_lookup.specs.declared.table.Lookup.{Lookup}
-use Rattle.h5w_lookup.specs.declared.table.Lookup.TheVariants as lookup_by
+use Rattle.h5w_lookup.specs.declared.lookup.Lookup.{Lookup}
+use Rattle.h5w_lookup.specs.declared.lookup.Lookup.TheVariants as lookup_by
 use Rattle.h5w_lookup.proofs.DescentLemmas.{waiting_wants}
 use Rattle.h5w_lookup.proofs.PieceLemmas.{fed_gather, wants_gather}
 

@@ -19,7 +19,8 @@ use Rattle.h5w_bt.specs.declared.records.Record.{Record}
 use Rattle.h5w_bt.specs.declared.children.Child.{Child}
 use Rattle.h5w_bt.specs.Parts.{record_of, child_of}
 use Rattle.h5w_laws.proofs.NodeLemmas.{children_few}
-use Rattle.h5w_lookup.specs.Blocks.{IsRead, node_len, node_at}
+use Rattle.h5w_lookup.specs.Blocks.{IsRead, node_at}
+use Rattle.h5w_bt.specs.Lengths.{node_len}
 use Rattle.h5w_lookup.specs.Contents.{inner_in}
 use Rattle.h5w_lookup.specs.Turns.{ForChild}
 use Rattle.h5w_lookup.specs.Turning.{turning}

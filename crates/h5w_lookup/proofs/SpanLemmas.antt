@@ -10,7 +10,8 @@ use Rattle.h5w_bt.specs.declared.records.Record.{Record}
 use Rattle.h5w_bt.specs.declared.children.Child.{Child}
 use Rattle.h5w_bt.specs.Parts.{record_of, child_of}
 use Rattle.h5w_bt.proofs.KeyLemmas.{below-not_back, above-not_equal}
-use Rattle.h5w_lookup.specs.Blocks.{IsRead, node_len}
+use Rattle.h5w_lookup.specs.Blocks.{IsRead}
+use Rattle.h5w_bt.specs.Lengths.{node_len}
 use Rattle.h5w_lookup.specs.Contents.{records_in, inner_in}
 use Rattle.h5w_lookup.specs.Seeking.{store_rest, next_rest}
 use Rattle.h5w_lookup.specs.Spans.{walked, AreKept, Falls, IsSpanOf, IsLed, IsSpan}

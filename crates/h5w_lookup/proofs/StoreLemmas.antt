@@ -1,11 +1,12 @@
 -- The store of an attempt is the list of kept blocks of its program.
-use Rattle.std.proofs.Common.{◌≡◌, ℕ, zero, suc, ◌-◌, ◌^◌, ◌<◌, ◌≤◌, Bool, true, false, cond, List, [], ◌∷◌, length, take, Option, Some, None, Result, Ok, Err, inl, inr, refl, sym, ◌∙◌, ap, subst, arith}
+use Rattle.std.proofs.Common.{◌≡◌, ℕ, zero, suc, ◌+◌, ◌-◌, ◌*◌, ◌^◌, ◌<◌, ◌≤◌, Bool, true, false, cond, List, [], ◌∷◌, length, take, Option, Some, None, Result, Ok, Err, inl, inr, refl, sym, ◌∙◌, ap, subst, arith}
 use Rattle.std.specs.Prelude.{◌==◌, ◌&&◌, nat_eq, option_map, OnOk, OnErr}
 use Rattle.std.specs.List.{AllByRecursion, IsDistinct}
 use Rattle.std.specs.Option.{option_map_or}
 use Rattle.std.specs.Map.{keys_of, lookup, lookup_entry, remove_entry}
 use Rattle.std.proofs.lemmas.Bool.{cases_Bool, eq-eqb, eqb-true, ne_eqb}
 use Rattle.std.proofs.lemmas.List.{take-map}
+use Rattle.std.proofs.lemmas.Nat.{same_from_place}
 use Rattle.lru.specs.LruCache.{LruCache, IsValid, promoted, put_entries}
 use Rattle.h5w_model.specs.Programs.{Kept, is_of, kept_bytes, others, used}
 use Rattle.h5w_lookup.specs.Blocks.{block_number}
@@ -32,11 +33,9 @@ record IsSame (kind at n : ℕ) (k : Kept) : Type 0 where
 
 same_number : (kind at n : ℕ) (k : Kept) → IsSmall at n → IsSmall k.place k.len → block_number kind at n ≡ block_number k.kind k.place k.len → IsSame kind at n k
 same_number kind at n k s t e =
-    let a = s.low in
-    let b = s.small in
-    let c = t.low in
-    let d = t.small in
-    record { kind_is = omega arith; place_is = omega arith; len_is = omega arith }
+    let outer = same_from_place (kind * 2 ^ 32 + n) at (k.kind * 2 ^ 32 + k.len) k.place (2 ^ 64) s.low t.low e in
+    let inner = same_from_place kind n k.kind k.len (2 ^ 32) s.small t.small outer.0 in
+    record { kind_is = sym inner.0; place_is = sym outer.1; len_is = sym inner.1 }
 
 is_same : (kind at n : ℕ) (k : Kept) → IsSame kind at n k → is_of kind at n k ≡ true
 is_same kind at n k s = rw (eq-eqb k.kind kind s.kind_is, eq-eqb k.place at s.place_is, eq-eqb k.len n s.len_is) refl

@@ -19,8 +19,8 @@ use Rattle.h5w_lookup.specs.Slots.{answered, slots_rest}
 use Rattle.h5w_lookup.specs.Descents.{reading_news, waiting}
 use Rattle.h5w_lookup.specs.declared.known.Known.{Known}
 use Rattle.h5w_lookup.specs.declared.known.Rules.{Rules}
-use Rattle.h5w_lookup.specs.declared.table.Lookup.{Lookup}
-use Rattle.h5w_lookup.specs.declared.table.Lookup.TheVariants as lookup_by
+use Rattle.h5w_lookup.specs.declared.lookup.Lookup.{Lookup}
+use Rattle.h5w_lookup.specs.declared.lookup.Lookup.TheVariants as lookup_by
 use Rattle.h5w_lookup.specs.declared.news.News.{News}
 use Rattle.h5w_lookup.specs.declared.outcome.Outcome.{Outcome}
 

@@ -12,11 +12,6 @@ use Rattle.h5w_lookup.specs.declared.content.Content.{Content}
 abbrev pub block_number : ℕ → ℕ → ℕ → ℕ
 block_number kind place len = (kind * 2 ^ 32 + len) * 2 ^ 64 + place
 
--- how many bytes a node of a depth with n records has
-abbrev pub node_len : ℕ → ℕ → ℕ
-node_len zero n = btlf_len n
-node_len (suc depth) n = btin_len n (suc depth)
-
 -- a node of a depth with n records; a leaf has no children
 abbrev pub node_at : ℕ → List ℕ → ℕ → ℕ → Result BtinFields BlockFault
 node_at zero b place n = then_also (btlf_at b place n) (λ rs. Ok (record { records = rs; children = [] }))

@@ -9,7 +9,7 @@ pub mod Blocks
 pub mod Keyed
 pub mod Stores
 pub mod Seeking
-pub mod Sought
+pub mod Probes
 pub mod Unknown
 pub mod Slots
 pub mod Spans

@@ -9,7 +9,7 @@ use Rattle.h5w_model.specs.Trees.{btlf_at, btin_at}
 use Rattle.h5w_model.specs.declared.cell.Key.{Key}
 use Rattle.h5w_model.specs.declared.refusal.ReadError.{ReadError}
 use Rattle.h5w_model.specs.declared.refusal.ReadError.TheVariants.{Damaged}
-use Rattle.h5w_lookup.specs.Blocks.{node_len}
+use Rattle.h5w_bt.specs.Lengths.{node_len}
 use Rattle.h5w_lookup.specs.Gathering.{cut_behind}
 use Rattle.h5w_lookup.specs.declared.wait.Wait.{Wait}
 use Rattle.h5w_lookup.specs.declared.wait.Wait.TheVariants.{Data, Second, Node}

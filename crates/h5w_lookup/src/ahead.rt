@@ -14,17 +14,16 @@ ghost use Rattle.h5w_lookup.specs.Seeking.{store_rest};
 ghost use Rattle.h5w_lookup.specs.Stores.{kept};
 ghost use Rattle.h5w_lookup.specs.Unknown.{unknown_at};
 
-use crate::block::{DATA, SECOND, slots_len};
+use crate::block::{DATA, SECOND};
 use crate::index::Index;
 use crate::known::Known;
+use crate::lookup::address_at;
 use crate::recall::{all_unknown, unknown};
-use crate::sizes::{first_super_block, sizes};
 use crate::store::Store;
-use crate::table::address_at;
 use crate::wait::DataWait;
 use h5w_bytes::UNDEFINED;
 use h5w_dataset::Dataset;
-use h5w_ea::{Eaib, Place, place};
+use h5w_ea::{Eaib, Place, first_super_block, place, sizes, slots_len};
 use h5w_model::OutOfMemory;
 
 /// A slot of the data block of `n` slots at `at`, where that is kept. It is the last used then.

@@ -3,12 +3,14 @@ ghost use Rattle.std.specs.Prelude.{◌≡◌, ◌+◌, ◌≤◌, ◌<◌, ◌^
 ghost use Rattle.h5w_model.specs.Arrays.{eadb_at, easb_at, slots_fields, slots_len};
 ghost use Rattle.h5w_model.specs.Trees.{capacity_of};
 ghost use Rattle.std.proofs.Props.{props};
-ghost use Rattle.h5w_lookup.specs.Blocks.{IsRead, node_at, node_len};
+ghost use Rattle.h5w_lookup.specs.Blocks.{IsRead, node_at};
+ghost use Rattle.h5w_bt.specs.Lengths.{node_len};
 ghost use Rattle.h5w_lookup.specs.Contents.{bytes_in};
 
 use crate::addresses::Addresses;
 use crate::content::Content;
-use h5w_bt::{Btin, Btlf};
+use h5w_bt::{Btin, Btlf, node_len};
+use h5w_ea::slots_len;
 use h5w_model::BlockFault;
 use std::alloc::Global;
 
@@ -20,12 +22,6 @@ pub const SECOND: u8 = 1;
 
 /// The kind of a leaf of a tree; that of an inner node is so much more as its depth.
 const LEAF: u8 = 2;
-
-/// How many bytes stand around the records of a node.
-const FRAME: u64 = 10;
-
-/// How many bytes a record has.
-const RECORD: u64 = 24;
 
 /// A block that was looked at.
 #[derive(Drop)]
@@ -40,31 +36,6 @@ pub struct Block {
     ghost read: { IsRead kind place len (bytes_in content) content } by { Prim.hlevel props },
     ghost small: { len < 2 ^ 32 },
     ghost low: { place < 2 ^ 64 },
-}
-
-/// How many bytes a block of `n` slots has.
-pub fn slots_len(n: u64) -> u64
-    requires { n ≤ 1024 }
-    ensures { result ≡ slots_len n }
-{
-    22 + 8 * n
-}
-
-/// How many bytes a node of a depth with `n` records has, up to its sum.
-pub fn node_len(depth: u64, n: u64) -> u64
-    requires shallow { depth ≤ 3 }
-    requires few { n ≤ 84 }
-    ensures exact { result ≡ node_len depth n }
-    ensures some { 0 < result }
-    ensures small { result < 2 ^ 32 }
-{
-    let records = FRAME + RECORD * n;
-    match depth {
-        0 => records,
-        1 => records + (n + 1) * 9,
-        2 => records + (n + 1) * 11,
-        _ => records + (n + 1) * 12,
-    }
 }
 
 /// The kind of a node of a depth.
@@ -129,7 +100,7 @@ impl Block {
         Ok(Block {
             kind: LEAF,
             place,
-            len: FRAME + RECORD * n,
+            len: node_len(0, n),
             content: Content::Leaf(records, bytes),
         })
     }

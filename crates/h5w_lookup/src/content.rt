@@ -3,14 +3,14 @@ ghost use Rattle.std.specs.Prelude.{◌≡◌, ◌+◌, ◌-◌, ◌≤◌, ◌+
 ghost use Rattle.std.specs.List.{All};
 ghost use Rattle.h5w_model.specs.Numbers.{undefined};
 ghost use Rattle.h5w_model.specs.Programs.{Prog};
-ghost use Rattle.h5w_model.specs.Tables.{in_leaf, in_node, key_below, key_equal};
+ghost use Rattle.h5w_model.specs.Tables.{in_leaf, in_node, key_below};
 ghost use Rattle.h5w_model.specs.Trees.{ChildFields, capacity_of};
 ghost use Rattle.h5w_model.specs.declared.refusal.ReadError.{ReadError};
 ghost use Rattle.h5w_bt.specs.Parts.{record_of, child_of};
 ghost use Rattle.h5w_lookup.specs.Turns.{turned_by, ForChild, IsSameTurn};
 
 use crate::addresses::Addresses;
-use h5w_bt::{Btin, Child, Key, Record, Records};
+use h5w_bt::{Btin, Child, Key, Record, Records, is_below, is_same};
 use h5w_bytes::UNDEFINED;
 use h5w_model::OutOfMemory;
 
@@ -39,20 +39,6 @@ pub const LAST: Key = Key {
     i: u64::MAX,
     j: u64::MAX,
 };
-
-/// Whether a key comes before another.
-pub fn is_below(a: &Key, b: &Key) -> bool
-    ensures { result ≡ key_below a.now b.now }
-{
-    a.i < b.i || (a.i == b.i && a.j < b.j)
-}
-
-/// Whether two keys are the same.
-fn is_same(a: &Key, b: &Key) -> bool
-    ensures { result ≡ key_equal a.now b.now }
-{
-    a.i == b.i && a.j == b.j
-}
 
 /// The address of a key among the records of a leaf: the first record that is not below the key decides.
 fn among_records(records: &[Record], key: &Key) -> u64

@@ -10,14 +10,15 @@ ghost use Rattle.h5w_lookup.specs.Spans.{IsSpan};
 ghost use Rattle.h5w_lookup.specs.Stores.{kept};
 
 use crate::ahead::go_ahead;
-use crate::block::{node_kind, node_len};
-use crate::content::{among_from, is_below};
+use crate::block::node_kind;
+use crate::content::among_from;
 use crate::index::Index;
 use crate::known::Known;
+use crate::probe::key_of;
 use crate::recall::unknown;
-use crate::seek::key_of;
 use crate::span::Span;
 use crate::store::Store;
+use h5w_bt::{is_below, node_len};
 use h5w_dataset::Dataset;
 use h5w_model::OutOfMemory;
 

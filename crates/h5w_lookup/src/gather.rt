@@ -2,6 +2,7 @@
 ghost use Rattle.std.specs.Prelude.{◌≡◌, ◌+◌, ◌-◌, ◌<◌, ◌≤◌, ◌^◌, min, length, ℕ, true, false, Ok, Some, IfOk};
 
 use crate::look::{Look, below_end};
+use crate::outcome::Progress;
 use h5w_model::{OutOfMemory, PIECE, Piece};
 
 /// Bytes that were found, and the range of the image that is to be put behind them, in pieces of at most 512 bytes.
@@ -19,13 +20,8 @@ pub struct Gather {
     ghost behind: { start + length got.items ≤ place },
 }
 
-/// What a piece makes of it.
-#[derive(Drop)]
-pub enum Gathered {
-    /// All bytes that the image has of the range.
-    Whole(Vec<u8>),
-    More(Gather),
-}
+/// What a piece makes of it: all bytes that the image has of the range, once none is left to be looked at.
+pub type Gathered = Progress<Vec<u8>, Gather>;
 
 impl Gather {
     ghost use Rattle.h5w_model.specs.Programs.{next_look, fed};
@@ -99,9 +95,9 @@ impl Gather {
         } = self;
         got.extend_from_slice(piece.as_slice())?;
         if piece.len() < PIECE || rest <= PIECE as u64 {
-            return Ok(Gathered::Whole(got));
+            return Ok(Progress::Done(got));
         }
-        Ok(Gathered::More(Gather {
+        Ok(Progress::Looks(Gather {
             start,
             place: place + PIECE as u64,
             rest: rest - PIECE as u64,

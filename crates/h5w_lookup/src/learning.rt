@@ -9,9 +9,9 @@ ghost use Rattle.h5w_dataset.specs.Described.{described_of};
 ghost use Rattle.h5w_lookup.specs.Unknown.{absent_from, needed_with, put_in, with_found};
 
 use crate::known::Known;
+use crate::lookup::address_at;
 use crate::news::News;
 use crate::recall::{is_cut_alike, unknown};
-use crate::table::address_at;
 use h5w_bytes::UNDEFINED;
 use h5w_model::OutOfMemory;
 use std::alloc::Global;

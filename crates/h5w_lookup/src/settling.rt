@@ -4,9 +4,9 @@ ghost use Rattle.h5w_dataset.specs.Founds.{founds};
 ghost use Rattle.h5w_lookup.specs.Attempts.{known_of, looked_up, described_rest, rules_of};
 
 use crate::known::{Known, Rules};
+use crate::lookup::{LookedUp, Lookup};
 use crate::outcome::Outcome;
 use crate::recall::rows_seen;
-use crate::table::{LookedUp, Lookup};
 use h5w_dataset::{FoundMessage, describe};
 use h5w_model::{OutOfMemory, ReadError};
 use std::alloc::Global;

@@ -2,9 +2,8 @@
 ghost use Rattle.std.specs.Prelude.{◌≡◌, ◌≤◌, ◌<◌};
 ghost use Rattle.h5w_model.specs.Trees.{capacity_of};
 
-use crate::block::{node_len, slots_len};
-use crate::sizes::sizes;
-use h5w_bt::Key;
+use h5w_bt::{Key, node_len};
+use h5w_ea::{sizes, slots_len};
 
 /// A data block of `n` slots, of one of which the address is asked for.
 #[derive(Clone, Copy)]

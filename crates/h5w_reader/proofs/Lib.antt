@@ -1,17 +1,17 @@
-pub mod AbsorbLemmas
-pub mod WalkLemmas
-pub mod ViewLemmas
-pub mod OpenLemmas
-pub mod UnstoredLemmas
-pub mod IdleLemmas
-pub mod HeaderLemmas
-pub mod CallLemmas
-pub mod StageLemmas
-pub mod CellLemmas
-pub mod BandLemmas
-pub mod ValueLemmas
-pub mod ReadLemmas
-pub mod GridLemmas
-pub mod SideLemmas
+mod AbsorbLemmas
+mod WalkLemmas
+mod ViewLemmas
+mod OpenLemmas
+mod UnstoredLemmas
+mod IdleLemmas
+mod HeaderLemmas
+mod CallLemmas
+mod StageLemmas
+mod CellLemmas
+mod BandLemmas
+mod ValueLemmas
+mod ReadLemmas
+mod GridLemmas
+mod SideLemmas
 pub mod AskedLemmas
-pub mod CoreLemmas
+mod CoreLemmas

@@ -11,7 +11,7 @@ use Rattle.h5w_reader.specs.Calling.{stage_left}
 use Rattle.h5w_reader.specs.Values.{reading_values, valued}
 use Rattle.h5w_lookup.specs.declared.known.Known.{Known}
 use Rattle.h5w_reader.specs.declared.values.Reads.{Reads}
-use Rattle.h5w_reader.specs.declared.values.Valued.{Valued}
+use Rattle.h5w_lookup.specs.declared.outcome.Outcome.{Outcome}
 use Rattle.h5w_reader.specs.declared.call.Call.{Call}
 use Rattle.h5w_reader.specs.declared.call.Call.TheVariants as calls
 use Rattle.h5w_reader.specs.declared.step.Step.{Step}
@@ -34,7 +34,7 @@ abbrev pub reads_left : Option Known → Reads → Option Unfinished
 reads_left None v = None
 reads_left (Some k) v = Some (values_left (reading_values k v))
 
-abbrev pub valued_left : Option Known → Valued → Option Unfinished
+abbrev pub valued_left : Option Known → Outcome (List ℤ) Reads → Option Unfinished
 valued_left None v = None
 valued_left (Some k) v = Some (values_left (valued k v))
 

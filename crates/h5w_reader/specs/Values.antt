@@ -9,16 +9,16 @@ use Rattle.h5w_model.specs.declared.refusal.ReadError.TheVariants.{Damaged}
 use Rattle.h5w_model.specs.declared.refusal.BlockFault.TheVariants.{Cut}
 use Rattle.h5w_lookup.specs.Looks.{plain}
 use Rattle.h5w_lookup.specs.Gathering.{gathering}
+use Rattle.h5w_lookup.specs.Outcomes.{outcome_left}
 pub use Rattle.h5w_reader.specs.Bands.{rows_in_band, end_band, reading_with}
 use Rattle.h5w_reader.specs.Gridding.{grid_left}
 use Rattle.h5w_lookup.specs.declared.known.Known.{Known}
 use Rattle.h5w_reader.specs.declared.values.Ranged.{Ranged}
 use Rattle.h5w_reader.specs.declared.values.Reads.{Reads}
 use Rattle.h5w_reader.specs.declared.values.Reads.TheVariants as reads_by
-use Rattle.h5w_reader.specs.declared.values.Goes.{Goes}
-use Rattle.h5w_reader.specs.declared.values.Goes.TheVariants as goes_by
-use Rattle.h5w_reader.specs.declared.values.Valued.{Valued}
-use Rattle.h5w_reader.specs.declared.values.Valued.TheVariants as valued_by
+use Rattle.h5w_lookup.specs.declared.outcome.Outcome.{Outcome}
+use Rattle.h5w_lookup.specs.declared.outcome.Progress.{Progress}
+use Rattle.h5w_lookup.specs.declared.outcome.Progress.TheVariants as progress_by
 
 -- the values of these rows, from the range of the band's chunk
 abbrev pub band_values : Reading → ℕ → ℕ → ℕ → Option (List ℕ) → List ℤ
@@ -53,10 +53,9 @@ reading_values k (reads_by.Range s) = range_values k s
 reading_values k (reads_by.Beside s) = grid_left k s
 reading_values k (reads_by.Past at len) = past_values at len
 
-abbrev pub goes : Known → Goes → Prog (Result (List ℤ) ReadError)
-goes k (goes_by.Done vs) = ret (Ok vs)
-goes k (goes_by.Looks s) = reading_values k s
+abbrev pub goes : Known → Progress (List ℤ) Reads → Prog (Result (List ℤ) ReadError)
+goes k (progress_by.Done vs) = ret (Ok vs)
+goes k (progress_by.Looks s) = reading_values k s
 
-abbrev pub valued : Known → Valued → Prog (Result (List ℤ) ReadError)
-valued k (valued_by.Goes g) = goes k g
-valued k (valued_by.Refused e) = ret (Err e)
+abbrev pub valued : Known → Outcome (List ℤ) Reads → Prog (Result (List ℤ) ReadError)
+valued k v = outcome_left (λ (vs : List ℤ). vs) (reading_values k) v

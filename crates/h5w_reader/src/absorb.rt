@@ -6,10 +6,7 @@ ghost use Rattle.h5w_reader.specs.declared.call.Call.TheVariants as calls;
 ghost use Rattle.h5w_lookup.specs.declared.known.Known.{Known};
 ghost use Rattle.h5w_reader.specs.declared.values.Reads.{Reads};
 
-use crate::behind::Behind;
 use crate::call::Call;
-use crate::stage::Stage;
-use crate::values::Reads;
 use h5w_model::{OutOfMemory, Piece};
 
 /// Takes up a full piece where the block or the range that is looked at goes on behind it; false where the piece may be its
@@ -21,9 +18,8 @@ pub fn absorb(call: &mut Option<Call>, piece: &Piece) -> Result<bool, OutOfMemor
     ensures values { (reads : Reads) → call.new ≡ Some (calls.Values reads) → (before : Reads) × (call.old ≡ Some (calls.Values before)) }
 {
     match call {
-        Some(Call::Rows(Stage::Behind(_, Behind::Lookup(lookup)))) => lookup.absorb(piece),
-        Some(Call::Values(Reads::Range(ranged))) => ranged.gather.absorb(piece),
-        Some(Call::Values(Reads::Beside(beside))) => beside.gather.absorb(piece),
-        _ => Ok(false),
+        Some(Call::Rows(stage)) => stage.absorb(piece),
+        Some(Call::Values(reads)) => reads.absorb(piece),
+        None => Ok(false),
     }
 }

@@ -1,5 +1,5 @@
 //! What an attempt looks at behind the dataset header.
-ghost use Rattle.std.specs.Prelude.{◌≡◌, ◌+◌, ◌≤◌, ◌^◌, length, Some, IfOk};
+ghost use Rattle.std.specs.Prelude.{◌≡◌, ◌+◌, ◌≤◌, ◌^◌, length, Ok, Some, true, false, IfOk};
 ghost use Rattle.h5w_lookup.specs.Attempts.{known_of, rules_of};
 
 use crate::walk::{Block, Walk, Walked};
@@ -92,6 +92,18 @@ impl Behind {
         match self {
             Behind::Visit(block) => block.want(),
             Behind::Lookup(lookup) => lookup.want(),
+        }
+    }
+
+    /// Takes up a full piece where the block of the index that is looked at goes on behind it; false where the piece may be its
+    /// last, or something else is looked at.
+    pub fn absorb(&mut self, piece: &Piece) -> Result<bool, OutOfMemory>
+        ensures more { result ≡ Ok true → (g : CallRules) → behind_left g self.new ≡ fed piece.now (behind_left g self.old) }
+        ensures same { result ≡ Ok false → (g : CallRules) → behind_left g self.new ≡ behind_left g self.old }
+    {
+        match self {
+            Behind::Lookup(lookup) => lookup.absorb(piece),
+            _ => Ok(false),
         }
     }
 

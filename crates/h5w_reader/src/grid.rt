@@ -7,10 +7,10 @@ ghost use Rattle.h5w_dataset.specs.Described.{described_of};
 ghost use Rattle.h5w_reader.specs.Grids.{AreWhole, touched_len};
 
 use crate::cells::{put_cells, put_fill};
-use crate::values::{Goes, Reads, Valued};
+use crate::values::{Reads, Valued};
 use h5w_bytes::UNDEFINED;
 use h5w_dataset::Dataset;
-use h5w_lookup::{Gather, Gathered, Known, address_at};
+use h5w_lookup::{Gather, Known, Outcome, Progress, address_at};
 use h5w_model::{BlockFault, Bytes, OutOfMemory, Piece, ReadError, Values};
 use std::alloc::Global;
 
@@ -45,14 +45,8 @@ pub struct Beside {
     ghost whole: { AreWhole (described_of grid.dataset) band grid.from grid.to ranges.items },
 }
 
-/// What going through a band comes to.
-#[derive(Drop)]
-pub enum Banded {
-    /// The values of its rows and of those before.
-    Done(Vec<i128>),
-    /// The range of a chunk of it is to be looked at first.
-    Waits(Reads),
-}
+/// What going through a band comes to: the values of its rows and of those before.
+pub type Banded = Progress<Vec<i128>, Reads>;
 
 /// The `len` bytes from byte `start` on.
 fn part(bytes: &[u8], start: usize, len: usize) -> &[u8]
@@ -255,12 +249,12 @@ impl Grid {
         for column in ranges.len()..across {
             let address = address_at(&known.table, first + column);
             if address != UNDEFINED {
-                return Ok(Banded::Waits(self.visit(alloc, band, values, ranges, address)));
+                return Ok(Progress::Looks(self.visit(alloc, band, values, ranges, address)));
             }
             ranges.push(None)?;
         }
         self.put_rows(band, &ranges, &mut values)?;
-        Ok(Banded::Done(values))
+        Ok(Progress::Done(values))
     }
 
     /// Goes on from a band up to the next chunk that is looked at, or to the end.
@@ -270,18 +264,18 @@ impl Grid {
         known: &Known,
         band: u64,
         mut values: Vec<i128>,
-    ) -> Result<Goes, OutOfMemory>
+    ) -> Result<Progress<Values, Reads>, OutOfMemory>
         requires { self.from / self.dataset.layout.chunk.0 ≤ band }
         ensures { IfOk result (λ g. goes known.now g ≡ bands_rest (reading_with known.now self.dataset) self.from self.to band values.items) }
     {
         let end = self.end();
         for i in band..end {
             match self.go_through(alloc, known, i, values, Vec::new(alloc))? {
-                Banded::Done(more) => values = more,
-                Banded::Waits(reads) => return Ok(Goes::Looks(reads)),
+                Progress::Done(more) => values = more,
+                Progress::Looks(reads) => return Ok(Progress::Looks(reads)),
             }
         }
-        Ok(Goes::Done(Values::from_vec(values)))
+        Ok(Progress::Done(Values::from_vec(values)))
     }
 
     /// Goes on with the range of a chunk of a band, which begins at `place` and of which these bytes were found.
@@ -304,7 +298,7 @@ impl Grid {
         let (_, len) = self.range(band, ranges.len() as u64);
         let got = bytes.len() as u64;
         if got < len {
-            return Ok(Valued::Refused(ReadError::Damaged {
+            return Ok(Outcome::Refused(ReadError::Damaged {
                 at: place,
                 fault: BlockFault::Cut { need: len, got },
             }));
@@ -313,11 +307,11 @@ impl Grid {
         ranges.push(Some(range))?;
         let through = self.go_through(alloc, known, band, values, ranges)?;
         let values = match through {
-            Banded::Done(values) => values,
-            Banded::Waits(reads) => return Ok(Valued::Goes(Goes::Looks(reads))),
+            Progress::Done(values) => values,
+            Progress::Looks(reads) => return Ok(Outcome::Looks(reads)),
         };
         let goes = self.go_on(alloc, known, band + 1, values)?;
-        Ok(Valued::Goes(goes))
+        Ok(Reads::of(goes))
     }
 }
 
@@ -341,16 +335,16 @@ impl Beside {
         } = self;
         let place = gather.start();
         match gather.feed(piece)? {
-            Gathered::More(gather) => {
-                Ok(Valued::Goes(Goes::Looks(Reads::Beside(Beside {
+            Progress::Looks(gather) => {
+                Ok(Outcome::Looks(Reads::Beside(Beside {
                     grid,
                     band,
                     values,
                     ranges,
                     gather,
-                }))))
+                })))
             }
-            Gathered::Whole(bytes) => {
+            Progress::Done(bytes) => {
                 grid.enter(alloc, known, band, values, ranges, place, bytes)
             }
         }

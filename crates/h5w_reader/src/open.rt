@@ -5,7 +5,7 @@ ghost use Rattle.h5w_model.specs.Datasets.{is_swmr, super_of};
 use crate::view::root_view;
 use crate::walk::{Block, Walk, Walked};
 use h5w_dataset::{FoundMessage, header_refusal, super_refusal};
-use h5w_lookup::{Gather, Gathered, Look, Outcome, look_at};
+use h5w_lookup::{Gather, Look, Outcome, Progress, look_at};
 use h5w_model::{Bytes, OutOfMemory, PIECE, Piece, Prefix, ReadError};
 use h5w_ohdr::prefix;
 use h5w_super::{LEN, Super, decode};
@@ -116,8 +116,8 @@ impl Opening {
     {
         match self {
             Opening::Super(gather) => match gather.feed(piece)? {
-                Gathered::More(gather) => Ok(Outcome::Looks(Opening::Super(gather))),
-                Gathered::Whole(bytes) => Ok(match read_super(&bytes) {
+                Progress::Looks(gather) => Ok(Outcome::Looks(Opening::Super(gather))),
+                Progress::Done(bytes) => Ok(match read_super(&bytes) {
                     Ok(s) => Outcome::Looks(Opening::Root(s.root)),
                     Err(error) => Outcome::Refused(error),
                 }),
@@ -129,8 +129,8 @@ impl Opening {
             Opening::Rest(p, gather) => {
                 let place = gather.start();
                 match gather.feed(piece)? {
-                    Gathered::More(gather) => Ok(Outcome::Looks(Opening::Rest(p, gather))),
-                    Gathered::Whole(bytes) => {
+                    Progress::Looks(gather) => Ok(Outcome::Looks(Opening::Rest(p, gather))),
+                    Progress::Done(bytes) => {
                         Ok(Opening::of(Walk::start(alloc, place, &p, &bytes)?))
                     }
                 }

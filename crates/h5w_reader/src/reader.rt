@@ -14,9 +14,9 @@ use crate::call::Call;
 use crate::idle::is_idle;
 use crate::stage::Stage;
 use crate::step::{ReadBegin, Step};
-use crate::values::{Goes, Reads, Valued};
+use crate::values::{Reads, Valued};
 use h5w_dataset::Dataset;
-use h5w_lookup::{Known, Look, Outcome, Rules, learn, rows_seen};
+use h5w_lookup::{Known, Look, Outcome, Progress, Rules, learn, rows_seen};
 use h5w_model::{Bytes, OutOfMemory, Piece, ReadError, Values};
 use std::alloc::Global;
 
@@ -134,12 +134,12 @@ impl ReaderCore {
             return Err(ReadBegin::OutOfRows { from, count, rows });
         }
         let begun = match &self.known {
-            Some(known) if count > 0 => Goes::begin(self.alloc, known, from, count)?,
+            Some(known) if count > 0 => Reads::begin(self.alloc, known, from, count)?,
             _ => return Ok(Some(Values::from_vec(Vec::new(self.alloc)))),
         };
         match begun {
-            Goes::Done(values) => Ok(Some(values)),
-            Goes::Looks(reads) => {
+            Progress::Done(values) => Ok(Some(values)),
+            Progress::Looks(reads) => {
                 self.call = Some(Call::Values(reads));
                 Ok(None)
             }
@@ -209,9 +209,9 @@ impl ReaderCore {
                 Err(OutOfMemory) => Step::Refused(ReadError::OutOfMemory),
             },
             Some(Call::Values(reads)) => match feed_read(self.alloc, &self.known, reads, piece) {
-                Ok(Valued::Goes(Goes::Done(values))) => Step::Values(values),
-                Ok(Valued::Refused(error)) => Step::Refused(error),
-                Ok(Valued::Goes(Goes::Looks(reads))) => {
+                Ok(Outcome::Done(values)) => Step::Values(values),
+                Ok(Outcome::Refused(error)) => Step::Refused(error),
+                Ok(Outcome::Looks(reads)) => {
                     self.call = Some(Call::Values(reads));
                     Step::More
                 }

@@ -1,5 +1,5 @@
 //! An unfinished call for rows.
-ghost use Rattle.std.specs.Prelude.{◌≡◌, ◌≢◌, ℕ, List, Option, ◌+◌, ◌-◌, ◌<◌, ◌≤◌, ◌^◌, length, Ok, Err, Some, None, IfOk};
+ghost use Rattle.std.specs.Prelude.{◌≡◌, ◌≢◌, ℕ, List, Option, ◌+◌, ◌-◌, ◌<◌, ◌≤◌, ◌^◌, length, Ok, Err, Some, None, true, false, IfOk};
 ghost use Rattle.h5w_model.specs.Checked.{viewed};
 ghost use Rattle.h5w_model.specs.Programs.{below_end};
 ghost use Rattle.h5w_model.specs.Tables.{Reading};
@@ -230,6 +230,18 @@ impl Stage {
             Stage::Header(rules) => look_at(rules.place),
             Stage::Behind(_, behind) => behind.want(),
             Stage::Confirm(attempt, _) => look_at(attempt.rules.place),
+        }
+    }
+
+    /// Takes up a full piece where the block of the index that is looked at goes on behind it; false where the piece may be its
+    /// last, or something else is looked at.
+    pub fn absorb(&mut self, piece: &Piece) -> Result<bool, OutOfMemory>
+        ensures more { result ≡ Ok true → (most : ℕ) (name : List ℕ) (known : Option Reading) → stage_left most name known self.new ≡ fed piece.now (stage_left most name known self.old) }
+        ensures same { result ≡ Ok false → (most : ℕ) (name : List ℕ) (known : Option Reading) → stage_left most name known self.new ≡ stage_left most name known self.old }
+    {
+        match self {
+            Stage::Behind(_, behind) => behind.absorb(piece),
+            _ => Ok(false),
         }
     }
 

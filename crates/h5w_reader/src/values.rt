@@ -1,5 +1,5 @@
 //! A half-done read of rows, chunk by chunk; of a dataset of two dimensions it stands in [`crate::grid`].
-ghost use Rattle.std.specs.Prelude.{◌≡◌, ◌≢◌, ◌+◌, ◌-◌, ◌*◌, ◌/◌, ◌^◌, ◌<◌, ◌≤◌, get_or, length, ℕ, Some, IfOk};
+ghost use Rattle.std.specs.Prelude.{◌≡◌, ◌≢◌, ◌+◌, ◌-◌, ◌*◌, ◌/◌, ◌^◌, ◌<◌, ◌≤◌, get_or, length, ℕ, Ok, Some, true, false, IfOk};
 ghost use Rattle.h5w_model.specs.Numbers.{undefined};
 ghost use Rattle.h5w_model.specs.Calls.{first_in_band, last_in_band};
 ghost use Rattle.h5w_dataset.specs.Described.{described_of};
@@ -8,7 +8,7 @@ use crate::cells::{put_cells, put_fill};
 use crate::grid::{Beside, Grid};
 use h5w_bytes::UNDEFINED;
 use h5w_dataset::Dataset;
-use h5w_lookup::{Gather, Gathered, Known, Look, address_at, look_at};
+use h5w_lookup::{Gather, Known, Look, Outcome, Progress, address_at, look_at};
 use h5w_model::{BlockFault, OutOfMemory, Piece, ReadError, Values};
 use std::alloc::Global;
 
@@ -48,20 +48,8 @@ pub enum Reads {
     Past { at: u64, need: u64 },
 }
 
-/// How a read goes on.
-#[derive(Drop)]
-pub enum Goes {
-    /// The values of the rows, one after another.
-    Done(Values),
-    Looks(Reads),
-}
-
-/// What a look makes of a read.
-#[derive(Drop)]
-pub enum Valued {
-    Goes(Goes),
-    Refused(ReadError),
-}
+/// What a look makes of a read: the values of its rows, one after another.
+pub type Valued = Outcome<Values, Reads>;
 
 impl Span {
     ghost use Rattle.h5w_reader.specs.Values.{goes, valued, rows_rest, band_rest, reading_with};
@@ -114,7 +102,7 @@ impl Span {
         known: &Known,
         mut band: u64,
         mut values: Vec<i128>,
-    ) -> Result<Goes, OutOfMemory>
+    ) -> Result<Progress<Values, Reads>, OutOfMemory>
         requires { self.from / self.dataset.layout.chunk.0 ≤ band }
         ensures { IfOk result (λ g. goes known.now g ≡ rows_rest (reading_with known.now self.dataset) self.from self.to band values.items) }
     {
@@ -133,11 +121,17 @@ impl Span {
             )?;
             band += 1;
         }
-        Ok(Goes::Done(Values::from_vec(values)))
+        Ok(Progress::Done(Values::from_vec(values)))
     }
 
     /// Goes on at the chunk of a band, which stands at `address`. Where the range passes 2^64, the chunk is looked at.
-    fn visit(self, alloc: Global, band: u64, values: Vec<i128>, address: u64) -> Goes
+    fn visit(
+        self,
+        alloc: Global,
+        band: u64,
+        values: Vec<i128>,
+        address: u64,
+    ) -> Progress<Values, Reads>
         requires low { self.from / self.dataset.layout.chunk.0 ≤ band }
         requires high { band ≤ (self.to - 1) / self.dataset.layout.chunk.0 }
         requires there { address ≢ undefined }
@@ -145,14 +139,14 @@ impl Span {
     {
         let (start, len) = self.range(band);
         if u64::MAX - address < start + len - 1 {
-            return Goes::Looks(Reads::Past {
+            return Progress::Looks(Reads::Past {
                 at: address,
                 need: len,
             });
         }
         let place = address + start;
         let gather = Gather::new(place, Vec::new(alloc), place, len);
-        Goes::Looks(Reads::Range(Ranged {
+        Progress::Looks(Reads::Range(Ranged {
             span: self,
             band,
             values,
@@ -177,39 +171,14 @@ impl Span {
         let (_, len) = self.range(band);
         let got = bytes.len() as u64;
         if got < len {
-            return Ok(Valued::Refused(ReadError::Damaged {
+            return Ok(Outcome::Refused(ReadError::Damaged {
                 at: place,
                 fault: BlockFault::Cut { need: len, got },
             }));
         }
         put_cells(&bytes[..len as usize], &self.dataset.int_type, &mut values)?;
         let goes = self.go_on(alloc, known, band + 1, values)?;
-        Ok(Valued::Goes(goes))
-    }
-}
-
-impl Goes {
-    ghost use Rattle.h5w_model.specs.Calls.{values_call};
-    ghost use Rattle.h5w_lookup.specs.Attempts.{reading_of};
-    ghost use Rattle.h5w_reader.specs.Values.{goes};
-
-    /// Begins a read of `count` rows from row `from` on. Chunks that are not there are not looked at.
-    pub fn begin(alloc: Global, known: &Known, from: u64, count: u64) -> Result<Goes, OutOfMemory>
-        requires some { 1 ≤ count }
-        requires inside { from + count ≤ known.now.dataset.shape.rows }
-        ensures { IfOk result (λ g. goes known.now g ≡ values_call (reading_of known.now) from count) }
-    {
-        // from + count is at most these
-        let _rows = known.dataset.shape.rows;
-        let dataset = known.dataset;
-        let (to, band, none) = (from + count, from / dataset.layout.chunk.0, Vec::new(alloc));
-        if dataset.shape.rank == 1 {
-            return Span { dataset, from, to }.go_on(alloc, known, band, none);
-        }
-        if dataset.shape.cols == 0 {
-            return Ok(Goes::Done(Values::from_vec(none)));
-        }
-        Grid { dataset, from, to }.go_on(alloc, known, band, none)
+        Ok(Reads::of(goes))
     }
 }
 
@@ -231,13 +200,13 @@ impl Ranged {
         } = self;
         let place = gather.start();
         match gather.feed(piece)? {
-            Gathered::More(gather) => Ok(Valued::Goes(Goes::Looks(Reads::Range(Ranged {
+            Progress::Looks(gather) => Ok(Outcome::Looks(Reads::Range(Ranged {
                 span,
                 band,
                 values,
                 gather,
-            })))),
-            Gathered::Whole(bytes) => span.enter(alloc, known, band, values, place, &bytes),
+            }))),
+            Progress::Done(bytes) => span.enter(alloc, known, band, values, place, &bytes),
         }
     }
 }
@@ -245,7 +214,43 @@ impl Ranged {
 impl Reads {
     ghost use Rattle.h5w_model.specs.Programs.{next_look, fed};
     ghost use Rattle.h5w_lookup.specs.Looks.{look_of, IsWithinLook};
-    ghost use Rattle.h5w_reader.specs.Values.{reading_values, valued};
+    ghost use Rattle.h5w_model.specs.Calls.{values_call};
+    ghost use Rattle.h5w_lookup.specs.Attempts.{reading_of};
+    ghost use Rattle.h5w_reader.specs.Values.{goes, reading_values, valued};
+
+    /// What a look makes of a read that goes on so.
+    pub fn of(going: Progress<Values, Reads>) -> Valued
+        ensures { (k : Known) → valued k result ≡ goes k going }
+    {
+        match going {
+            Progress::Done(values) => Outcome::Done(values),
+            Progress::Looks(reads) => Outcome::Looks(reads),
+        }
+    }
+
+    /// Begins a read of `count` rows from row `from` on. Chunks that are not there are not looked at.
+    pub fn begin(
+        alloc: Global,
+        known: &Known,
+        from: u64,
+        count: u64,
+    ) -> Result<Progress<Values, Reads>, OutOfMemory>
+        requires some { 1 ≤ count }
+        requires inside { from + count ≤ known.now.dataset.shape.rows }
+        ensures { IfOk result (λ g. goes known.now g ≡ values_call (reading_of known.now) from count) }
+    {
+        // from + count is at most these
+        let _rows = known.dataset.shape.rows;
+        let dataset = known.dataset;
+        let (to, band, none) = (from + count, from / dataset.layout.chunk.0, Vec::new(alloc));
+        if dataset.shape.rank == 1 {
+            return Span { dataset, from, to }.go_on(alloc, known, band, none);
+        }
+        if dataset.shape.cols == 0 {
+            return Ok(Progress::Done(Values::from_vec(none)));
+        }
+        Grid { dataset, from, to }.go_on(alloc, known, band, none)
+    }
 
     /// The next look.
     pub fn want(&self) -> Look
@@ -261,6 +266,18 @@ impl Reads {
         }
     }
 
+    /// Takes up a full piece where the range that is looked at goes on behind it; false where the piece may be its last.
+    pub fn absorb(&mut self, piece: &Piece) -> Result<bool, OutOfMemory>
+        ensures more { result ≡ Ok true → (k : Known) → reading_values k self.new ≡ fed piece.now (reading_values k self.old) }
+        ensures same { result ≡ Ok false → (k : Known) → reading_values k self.new ≡ reading_values k self.old }
+    {
+        match self {
+            Reads::Range(ranged) => ranged.gather.absorb(piece),
+            Reads::Beside(beside) => beside.gather.absorb(piece),
+            _ => Ok(false),
+        }
+    }
+
     /// Goes on with the piece that the look gave.
     pub fn feed(self, alloc: Global, known: &Known, piece: &Piece) -> Result<Valued, OutOfMemory>
         requires { IsWithinLook (next_look (reading_values known.now self)) (length piece.now) }
@@ -269,7 +286,7 @@ impl Reads {
         match self {
             Reads::Range(ranged) => ranged.feed(alloc, known, piece),
             Reads::Beside(beside) => beside.feed(alloc, known, piece),
-            Reads::Past { at, need } => Ok(Valued::Refused(ReadError::Damaged {
+            Reads::Past { at, need } => Ok(Outcome::Refused(ReadError::Damaged {
                 at,
                 fault: BlockFault::Cut { need, got: 0 },
             })),

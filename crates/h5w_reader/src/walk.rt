@@ -3,7 +3,7 @@ ghost use Rattle.std.specs.Prelude.{◌≡◌, ◌+◌, ◌-◌, ◌<◌, ◌≤
 
 use h5w_bytes::number;
 use h5w_dataset::{FoundMessage, header_refusal, put_before};
-use h5w_lookup::{Gather, Gathered, Look, Outcome};
+use h5w_lookup::{Gather, Look, Outcome, Progress};
 use h5w_model::{BlockFault, HeaderError, OutOfMemory, Piece, Prefix, ReadError};
 use h5w_ohdr::{block, messages};
 use std::alloc::Global;
@@ -195,8 +195,8 @@ impl Block {
         let Block { walk, len, gather } = self;
         let place = gather.start();
         match gather.feed(piece)? {
-            Gathered::More(gather) => Ok(Outcome::Looks(Block { walk, len, gather })),
-            Gathered::Whole(bytes) => walk.enter(alloc, place, len, &bytes),
+            Progress::Looks(gather) => Ok(Outcome::Looks(Block { walk, len, gather })),
+            Progress::Done(bytes) => walk.enter(alloc, place, len, &bytes),
         }
     }
 }

@@ -2,7 +2,8 @@ use Rattle.std.proofs.Common.{◌≡◌, ◌∙◌, ◌-◌, sym, ap, arith}
 use Rattle.h5w_model.specs.Programs.{used}
 use Rattle.h5w_model.specs.Tables.{tree_node, tree_lookup}
 use Rattle.h5w_lookup.specs.Attempts.{known_of, rules_of}
-use Rattle.h5w_lookup.specs.Blocks.{node_len, node_at}
+use Rattle.h5w_lookup.specs.Blocks.{node_at}
+use Rattle.h5w_bt.specs.Lengths.{node_len}
 use Rattle.h5w_lookup.specs.Turning.{turned, turning}
 use Rattle.h5w_lookup.specs.Seeking.{next_rest, store_rest, wait_given}
 use Rattle.h5w_lookup.specs.Stores.{kept}

@@ -13,8 +13,8 @@ use Rattle.h5w_lookup.proofs.IndexLemmas.{index_below, some_across}
 use Rattle.h5w_lookup.proofs.DescentLemmas.{slots_done, slots_at, slots_push}
 use Rattle.h5w_lookup.proofs.descent.Descent.go_on.Goals as goal
 
-pub returns-in-Wait : goal.returns-in-Wait
-returns-in-Wait c =
+pub returns-in-Miss : goal.returns-in-Miss
+returns-in-Miss c =
     let g = rules_of c.args.rules.now (known_of c.args.known.now) in
     let s = c.args.self in
     let d = described_of s.dataset in
@@ -22,8 +22,8 @@ returns-in-Wait c =
     let known = known_table (known_of c.args.known.now) d in
     let xs = c.loop-i.found.items in
     let less : c.loop-i.i < needed d = omega (arith, c.loop-i-test.true, c.needed-needed.ensures) in
-    c.in_ok-wait-in-Wait.ensures g
-    ∙ c.in-Wait.ensures.exact (after_found g.place known d e xs)
+    c.in_ok-wait-in-Miss.ensures g
+    ∙ c.in-Miss.ensures.exact (after_found g.place known d e xs)
     ∙ slots_at g.place known d e (kept c.loop-i.store) c.keys_across-across.result c.loop-i.i xs c.keys_across-across.ensures c.loop-i.invariant.at less
     ∙ c.loop-i.invariant.same
 
@@ -34,7 +34,7 @@ loop-i-preserved c =
     let d = described_of s.dataset in
     let e = in_place_of s.index in
     let known = known_table (known_of c.args.known.now) d in
-    let a = c.in-Found.address in
+    let a = c.in-Hit.address in
     let xs = c.loop-i.found.items in
     let less : c.loop-i.i < needed d = omega (arith, c.loop-i-test.true, c.needed-needed.ensures) in
     let count : c.len-in-loop-i.result ≡ length c.follow.new.found.items = omega (arith, c.len-in-loop-i.ensures, c.follow.new.found.ok.0) in
@@ -42,7 +42,7 @@ loop-i-preserved c =
       at = c.unknown-i-in-loop-i.ensures ∙ ap (unknown_at known) count;
       same = c.in_ok-follow.ensures.same place
           ∙ slots_push place known d e (kept c.chunk.new.store) a xs c.push.new.self.items c.in_ok-push.ensures.items
-          ∙ c.in-Found.ensures.exact (after_found place known d e xs)
+          ∙ c.in-Hit.ensures.exact (after_found place known d e xs)
           ∙ slots_at place known d e (kept c.loop-i.store) c.keys_across-across.result c.loop-i.i xs c.keys_across-across.ensures c.loop-i.invariant.at less
           ∙ c.loop-i.invariant.same;
     }
@@ -53,7 +53,7 @@ loop-i-smaller c =
     let known = known_table (known_of c.args.known.now) (described_of s.dataset) in
     let xs = c.loop-i.found.items in
     let ys = c.follow.new.found.items in
-    let more : length xs < length ys = omega (arith, c.in_ok-follow.ensures.more, ap length c.in_ok-push.ensures.items, length-append xs (c.in-Found.address ∷ [])) in
+    let more : length xs < length ys = omega (arith, c.in_ok-follow.ensures.more, ap length c.in_ok-push.ensures.items, length-append xs (c.in-Hit.address ∷ [])) in
     let count : c.len-in-loop-i.result ≡ length ys = omega (arith, c.len-in-loop-i.ensures, c.follow.new.found.ok.0) in
     let next : c.unknown-i-in-loop-i.result ≡ unknown_at known (length ys) = c.unknown-i-in-loop-i.ensures ∙ ap (unknown_at known) count in
     omega (arith, c.loop-i-test.true, c.loop-i.invariant.at, next, unknown_less known (length xs) (length ys) more)
@@ -77,4 +77,4 @@ chunk-requires c =
     }
 
 pub follow-requires : goal.follow-requires
-follow-requires c = record { few = c.args.self.few; indexed = c.args.self.indexed; ahead = c.in-Found.ensures.ahead }
+follow-requires c = record { few = c.args.self.few; indexed = c.args.self.indexed; ahead = c.in-Hit.ensures.ahead }

@@ -14,17 +14,17 @@ feed-requires c =
     let g = rules_of c.args.rules.now (known_of c.args.known.now) in
     fits_gather s.gather (wait_given (kept s.descent.store) s.wait (after_next g s.descent)) (length c.args.piece.now) c.requires
 
-pub returns-in_ok-new-in-More : goal.returns-in_ok-new-in-More
-returns-in_ok-new-in-More c =
+pub returns-in_ok-new-in-Looks : goal.returns-in_ok-new-in-Looks
+returns-in_ok-new-in-Looks c =
     let s = c.args.self in
     let g = rules_of c.args.rules.now (known_of c.args.known.now) in
-    let e = rw c.in-More.is at c.in_ok-gather.ensures in
-    rw c.in_ok-new-in-More.ensures.ok (fed_more s.gather c.in-More.gather c.args.piece.now (wait_given (kept s.descent.store) s.wait (after_next g s.descent)) e.left)
+    let e = rw c.in-Looks.is at c.in_ok-gather.ensures in
+    rw c.in_ok-new-in-Looks.ensures.ok (fed_more s.gather c.in-Looks.gather c.args.piece.now (wait_given (kept s.descent.store) s.wait (after_next g s.descent)) e.left)
 
-pub returns-in-Whole : goal.returns-in-Whole
-returns-in-Whole c =
+pub returns-in-Done : goal.returns-in-Done
+returns-in-Done c =
     let s = c.args.self in
     let g = rules_of c.args.rules.now (known_of c.args.known.now) in
     let next = wait_given (kept s.descent.store) s.wait (after_next g s.descent) in
-    let e = rw c.in-Whole.is at c.in_ok-gather.ensures in
-    along (descended g) c.enter.result (next c.in-Whole.bytes.items) (fed c.args.piece.now (waiting g s)) c.enter.ensures (fed_whole s.gather c.in-Whole.bytes.items c.args.piece.now next e.left)
+    let e = rw c.in-Done.is at c.in_ok-gather.ensures in
+    along (descended g) c.enter.result (next c.in-Done.bytes.items) (fed c.args.piece.now (waiting g s)) c.enter.ensures (fed_whole s.gather c.in-Done.bytes.items c.args.piece.now next e.left)

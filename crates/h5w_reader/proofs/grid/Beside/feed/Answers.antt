@@ -14,19 +14,19 @@ feed-requires c =
     let r = reading_with c.args.known.now s.grid.dataset in
     fits_gather s.gather (grid_given r s.grid.from s.grid.to s.band (length s.ranges.items) s.values.items s.ranges.items s.gather.start) (length c.args.piece.now) c.requires
 
-pub returns-in-More : goal.returns-in-More
-returns-in-More c =
+pub returns-in-Looks : goal.returns-in-Looks
+returns-in-Looks c =
     let s = c.args.self in
     let r = reading_with c.args.known.now s.grid.dataset in
-    let e = rw c.in-More.is at c.in_ok-gather.ensures in
-    rw e.start (fed_more s.gather c.in-More.gather c.args.piece.now (grid_given r s.grid.from s.grid.to s.band (length s.ranges.items) s.values.items s.ranges.items s.gather.start) e.left)
+    let e = rw c.in-Looks.is at c.in_ok-gather.ensures in
+    rw e.start (fed_more s.gather c.in-Looks.gather c.args.piece.now (grid_given r s.grid.from s.grid.to s.band (length s.ranges.items) s.values.items s.ranges.items s.gather.start) e.left)
 
-pub returns-in-Whole : goal.returns-in-Whole
-returns-in-Whole c =
+pub returns-in-Done : goal.returns-in-Done
+returns-in-Done c =
     let s = c.args.self in
     let k = c.args.known.now in
     let r = reading_with k s.grid.dataset in
-    let e = rw c.in-Whole.is at c.in_ok-gather.ensures in
+    let e = rw c.in-Done.is at c.in_ok-gather.ensures in
     let next = grid_given r s.grid.from s.grid.to s.band (length s.ranges.items) s.values.items s.ranges.items in
-    along (valued k) c.enter.result (next c.start-place.result c.in-Whole.bytes.items) (fed c.args.piece.now (grid_left k s)) c.enter.ensures
-    (rw c.start-place.ensures (fed_whole s.gather c.in-Whole.bytes.items c.args.piece.now (next s.gather.start) e.left))
+    along (valued k) c.enter.result (next c.start-place.result c.in-Done.bytes.items) (fed c.args.piece.now (grid_left k s)) c.enter.ensures
+    (rw c.start-place.ensures (fed_whole s.gather c.in-Done.bytes.items c.args.piece.now (next s.gather.start) e.left))

@@ -31,8 +31,8 @@ go_through-requires-clause-whole c =
     let items : c.push.new.self.items ≡ old ++ Some b ∷ [] = c.in_ok-push.ensures.items ∙ ap (λ (x : List ℕ). old ++ Some x ∷ []) c.from_vec-range.ensures in
     subst (AreWhole d i s.from s.to) (sym items) (whole_some d i s.from s.to old b c.requires.whole whole_range)
 
-pub returns-in-Waits : goal.returns-in-Waits
-returns-in-Waits c =
+pub returns-in-Looks : goal.returns-in-Looks
+returns-in-Looks c =
     let s = c.args.self in
     let k = c.args.known.now in
     let d = described_of s.dataset in
@@ -45,7 +45,7 @@ returns-in-Waits c =
     let size : c.range-len.result.1 ≡ touched_len d i (length old) s.from s.to = subst (λ m. c.range-len.result.1 ≡ touched_len d i m s.from s.to) (c.len.ensures ∙ long) c.range-len.ensures.len in
     let enough : c.range-len.result.1 ≤ length b = omega (arith, c.len-got.ensures, c.args.bytes.ok.0, c.if-got-len.false) in
     let items : c.push.new.self.items ≡ old ++ Some b ∷ [] = c.in_ok-push.ensures.items ∙ ap (λ (x : List ℕ). old ++ Some x ∷ []) c.from_vec-range.ensures in
-    ap (banded k s i) (sym c.in-Waits.is)
+    ap (banded k s i) (sym c.in-Looks.is)
     ∙ c.in_ok-through.ensures
     ∙ ap (λ (os : List (Option (List ℕ))). grid_rest r s.from s.to i (length os) values os) items
     ∙ ap (λ n. grid_rest r s.from s.to i n values (old ++ Some b ∷ [])) (length-append old (Some b ∷ []))
@@ -65,7 +65,8 @@ returns c =
     let size : c.range-len.result.1 ≡ touched_len d i (length old) s.from s.to = subst (λ m. c.range-len.result.1 ≡ touched_len d i m s.from s.to) (c.len.ensures ∙ long) c.range-len.ensures.len in
     let enough : c.range-len.result.1 ≤ length b = omega (arith, c.len-got.ensures, c.args.bytes.ok.0, c.if-got-len.false) in
     let items : c.push.new.self.items ≡ old ++ Some b ∷ [] = c.in_ok-push.ensures.items ∙ ap (λ (x : List ℕ). old ++ Some x ∷ []) c.from_vec-range.ensures in
-    c.in_ok-goes.ensures
+    c.of.ensures k
+    ∙ c.in_ok-goes.ensures
     ∙ ap (banded k s i) (sym c.in-Done.is)
     ∙ c.in_ok-through.ensures
     ∙ ap (λ (os : List (Option (List ℕ))). grid_rest r s.from s.to i (length os) values os) items

@@ -5,15 +5,15 @@ use Rattle.h5w_reader.specs.Grids.{grid_rest}
 use Rattle.h5w_reader.proofs.SideLemmas.{bands_begin, bands_end}
 use Rattle.h5w_reader.proofs.grid.Grid.go_on.Goals as goal
 
-pub returns-in-Waits : goal.returns-in-Waits
-returns-in-Waits c =
+pub returns-in-Looks : goal.returns-in-Looks
+returns-in-Looks c =
     let s = c.args.self in
     let k = c.args.known.now in
     let r = reading_with k s.dataset in
     let i = c.loop-i.i in
     let values = c.loop-i.values.items in
     let less : i < end_band r s.to = omega (arith, c.loop-i-test.true, c.end-end.ensures) in
-    ap (banded k s i) (sym c.in-Waits.is)
+    ap (banded k s i) (sym c.in-Looks.is)
     ∙ c.in_ok-more.ensures
     ∙ ap (λ (os : List (Option (List ℕ))). grid_rest r s.from s.to i (length os) values os) c.new.ensures.items
     ∙ sym (bands_begin r s.from s.to i values less)

@@ -13,28 +13,28 @@ feed-requires c = fits_gather c.in-Super.gather super_rest (length c.args.piece.
 pub feed-requires-in-Rest : goal.feed-requires-in-Rest
 feed-requires-in-Rest c = fits_gather c.in-Rest.gather (chunk_0_rest c.in-Rest.gather.start c.in-Rest.p) (length c.args.piece.now) (rw c.in-Rest.is at c.requires)
 
-pub returns-in-More : goal.returns-in-More
-returns-in-More c =
-    let e = rw c.in-More.is at c.in_ok-gather-in-Super.ensures in
-    rw c.in-Super.is (fed_more c.in-Super.gather c.in-More.gather c.args.piece.now super_rest e.left)
+pub returns-in-Looks : goal.returns-in-Looks
+returns-in-Looks c =
+    let e = rw c.in-Looks.is at c.in_ok-gather-in-Super.ensures in
+    rw c.in-Super.is (fed_more c.in-Super.gather c.in-Looks.gather c.args.piece.now super_rest e.left)
 
 pub returns-after-read_super : goal.returns-after-read_super
 returns-after-read_super c =
-    let e = rw c.in-Whole.is at c.in_ok-gather-in-Super.ensures in
-    let whole = fed_whole c.in-Super.gather c.in-Whole.bytes.items c.args.piece.now super_rest e.left in
-    let exact : c.read_super.result ≡ super_of c.in-Whole.bytes.items = rw (← c.deref.ensures.value) c.read_super.ensures.exact in
+    let e = rw c.in-Done.is at c.in_ok-gather-in-Super.ensures in
+    let whole = fed_whole c.in-Super.gather c.in-Done.bytes.items c.args.piece.now super_rest e.left in
+    let exact : c.read_super.result ≡ super_of c.in-Done.bytes.items = rw (← c.deref.ensures.value) c.read_super.ensures.exact in
     rw c.in-Super.is (elim c.match-read_super.branch [
-      | in-Ok w ↦ rw w.result-is (sym (super_ok c.in-Whole.bytes.items w.in-Ok.s (sym exact ∙ w.in-Ok.is)) ∙ whole)
-      | in-Err w ↦ rw w.result-is (sym (super_err c.in-Whole.bytes.items w.in-Err.error (sym exact ∙ w.in-Err.is)) ∙ whole)
+      | in-Ok w ↦ rw w.result-is (sym (super_ok c.in-Done.bytes.items w.in-Ok.s (sym exact ∙ w.in-Ok.is)) ∙ whole)
+      | in-Err w ↦ rw w.result-is (sym (super_err c.in-Done.bytes.items w.in-Err.error (sym exact ∙ w.in-Err.is)) ∙ whole)
     ])
 
-pub returns-in-More-2 : goal.returns-in-More-2
-returns-in-More-2 c =
-    let e = rw c.in-More-2.is at c.in_ok-gather-in-Rest.ensures in
-    rw (c.in-Rest.is, e.start) (fed_more c.in-Rest.gather c.in-More-2.gather c.args.piece.now (chunk_0_rest c.in-Rest.gather.start c.in-Rest.p) e.left)
+pub returns-in-Looks-2 : goal.returns-in-Looks-2
+returns-in-Looks-2 c =
+    let e = rw c.in-Looks-2.is at c.in_ok-gather-in-Rest.ensures in
+    rw (c.in-Rest.is, e.start) (fed_more c.in-Rest.gather c.in-Looks-2.gather c.args.piece.now (chunk_0_rest c.in-Rest.gather.start c.in-Rest.p) e.left)
 
-pub returns-in_ok-start-in-Whole-2 : goal.returns-in_ok-start-in-Whole-2
-returns-in_ok-start-in-Whole-2 c =
-    let e = rw c.in-Whole-2.is at c.in_ok-gather-in-Rest.ensures in
-    let whole = fed_whole c.in-Rest.gather c.in-Whole-2.bytes.items c.args.piece.now (chunk_0_rest c.in-Rest.gather.start c.in-Rest.p) e.left in
-    rw c.in-Rest.is (c.of.ensures ∙ c.in_ok-start-in-Whole-2.ensures ∙ rw (c.start-place.ensures, c.deref-in-Whole-2.ensures.value) whole)
+pub returns-in_ok-start-in-Done-2 : goal.returns-in_ok-start-in-Done-2
+returns-in_ok-start-in-Done-2 c =
+    let e = rw c.in-Done-2.is at c.in_ok-gather-in-Rest.ensures in
+    let whole = fed_whole c.in-Rest.gather c.in-Done-2.bytes.items c.args.piece.now (chunk_0_rest c.in-Rest.gather.start c.in-Rest.p) e.left in
+    rw c.in-Rest.is (c.of.ensures ∙ c.in_ok-start-in-Done-2.ensures ∙ rw (c.start-place.ensures, c.deref-in-Done-2.ensures.value) whole)

@@ -33,8 +33,8 @@ returns-in-Ok-Looks-clause-wanting c = λ _.
     let s = c.args.self.now in
     rows_want s.attempts s.name s.known c.in-Ok-Looks.stage
 
-pub returns-in-Ok-Goes-Looks-clause-wanting : goal.returns-in-Ok-Goes-Looks-clause-wanting
-returns-in-Ok-Goes-Looks-clause-wanting c = λ _.
+pub returns-in-Ok-Looks-feed_read-clause-wanting : goal.returns-in-Ok-Looks-feed_read-clause-wanting
+returns-in-Ok-Looks-feed_read-clause-wanting c = λ _.
     let s = c.args.self.now in
     let took = c.in-Some-Values.ensures in
-    values_want s.attempts s.name s.known c.in-Ok-Goes-Looks.reads (s.known_first c.in-Some-Values.reads (sym took.value ∙ ap Some c.in-Some-Values.field-0-is))
+    values_want s.attempts s.name s.known c.in-Ok-Looks-feed_read.reads (s.known_first c.in-Some-Values.reads (sym took.value ∙ ap Some c.in-Some-Values.field-0-is))

@@ -11,18 +11,18 @@ feed-requires c =
     let r = reading_with c.args.known.now s.span.dataset in
     fits_gather s.gather (band_rest r s.span.from s.span.to s.band s.values.items s.gather.start) (length c.args.piece.now) c.requires
 
-pub returns-in-More : goal.returns-in-More
-returns-in-More c =
+pub returns-in-Looks : goal.returns-in-Looks
+returns-in-Looks c =
     let s = c.args.self in
     let r = reading_with c.args.known.now s.span.dataset in
-    let e = rw c.in-More.is at c.in_ok-gather.ensures in
-    rw e.start (fed_more s.gather c.in-More.gather c.args.piece.now (band_rest r s.span.from s.span.to s.band s.values.items s.gather.start) e.left)
+    let e = rw c.in-Looks.is at c.in_ok-gather.ensures in
+    rw e.start (fed_more s.gather c.in-Looks.gather c.args.piece.now (band_rest r s.span.from s.span.to s.band s.values.items s.gather.start) e.left)
 
-pub returns-in-Whole : goal.returns-in-Whole
-returns-in-Whole c =
+pub returns-in-Done : goal.returns-in-Done
+returns-in-Done c =
     let s = c.args.self in
     let k = c.args.known.now in
     let r = reading_with k s.span.dataset in
-    let e = rw c.in-Whole.is at c.in_ok-gather.ensures in
+    let e = rw c.in-Done.is at c.in_ok-gather.ensures in
     along (valued k) c.enter.result (band_rest r s.span.from s.span.to s.band s.values.items c.start-place.result c.deref.result.now) (fed c.args.piece.now (range_values k s)) c.enter.ensures
-    (rw (c.start-place.ensures, c.deref.ensures.value) (fed_whole s.gather c.in-Whole.bytes.items c.args.piece.now (band_rest r s.span.from s.span.to s.band s.values.items s.gather.start) e.left))
+    (rw (c.start-place.ensures, c.deref.ensures.value) (fed_whole s.gather c.in-Done.bytes.items c.args.piece.now (band_rest r s.span.from s.span.to s.band s.values.items s.gather.start) e.left))

@@ -17,5 +17,6 @@ returns c =
     let b = c.args.bytes.now in
     let len = c.range-len.result.1 in
     let t = span_touched k s c.args.band c.requires.low c.requires.high in
-    c.in_ok-goes.ensures
+    c.of.ensures k
+    ∙ c.in_ok-goes.ensures
     ∙ rw c.in_ok-put_cells.ensures (band_read r s.from s.to c.args.band c.args.place len c.args.values.items b (take len b) t (some_size s.dataset) c.range-len.ensures.len c.if-got-len.false refl)

@@ -10,15 +10,15 @@ feed-requires c =
     let s = c.args.self in
     fits_gather s.gather (block_left s.walk s.gather.start s.len) (length c.args.piece.now) c.requires
 
-pub returns-in-More : goal.returns-in-More
-returns-in-More c =
+pub returns-in-Looks : goal.returns-in-Looks
+returns-in-Looks c =
     let s = c.args.self in
-    let e = rw c.in-More.is at c.in_ok-gather.ensures in
-    rw e.start (fed_more s.gather c.in-More.gather c.args.piece.now (block_left s.walk s.gather.start s.len) e.left)
+    let e = rw c.in-Looks.is at c.in_ok-gather.ensures in
+    rw e.start (fed_more s.gather c.in-Looks.gather c.args.piece.now (block_left s.walk s.gather.start s.len) e.left)
 
-pub returns-in-Whole : goal.returns-in-Whole
-returns-in-Whole c =
+pub returns-in-Done : goal.returns-in-Done
+returns-in-Done c =
     let s = c.args.self in
-    let e = rw c.in-Whole.is at c.in_ok-gather.ensures in
+    let e = rw c.in-Done.is at c.in_ok-gather.ensures in
     along walked c.enter.result (block_left s.walk c.start-place.result s.len c.deref.result.now) (fed c.args.piece.now (walking s)) c.enter.ensures
-    (rw (c.start-place.ensures, c.deref.ensures.value) (fed_whole s.gather c.in-Whole.bytes.items c.args.piece.now (block_left s.walk s.gather.start s.len) e.left))
+    (rw (c.start-place.ensures, c.deref.ensures.value) (fed_whole s.gather c.in-Done.bytes.items c.args.piece.now (block_left s.walk s.gather.start s.len) e.left))

@@ -1,4 +1,0 @@
-use Rattle.h5w_lookup.proofs.seek.Sought.+node.Given as goal
-
-abbrev pub decreases-node : goal.decreases-node
-decreases-node l = l.depth
