@@ -5,7 +5,7 @@ use Rattle.h5w_model.specs.Numbers.{undefined}
 use Rattle.h5w_model.specs.Datasets.{Described}
 use Rattle.h5w_model.specs.Findings.{Used, chunk_bytes}
 use Rattle.h5w_model.specs.declared.cell.Key.{Key}
-use Rattle.h5w_visit_laws.specs.Ranges.{Among, chunk_at}
+use Rattle.h5w_step_laws.specs.Ranges.{Among, chunk_at}
 use Rattle.h5w_chunks.specs.Shares.{touched_key}
 use Rattle.h5w_chunks.specs.declared.grid.ChunkPlace.{ChunkPlace}
 use Rattle.h5w_array_laws.specs.ArrayPlans.{fresh}

@@ -5,14 +5,14 @@ use Rattle.h5w_model.specs.Images.{image}
 use Rattle.h5w_model.specs.Findings.{Used, chunk_bytes}
 use Rattle.h5w_model.specs.declared.cell.Key.{Key}
 use Rattle.h5w_model.specs.declared.piece.Write.{Write}
-use Rattle.h5w_visit_laws.specs.Ranges.{Among, block_at}
-use Rattle.h5w_visit_laws.proofs.RangeLemmas.{among_right}
+use Rattle.h5w_step_laws.specs.Ranges.{Among, block_at}
+use Rattle.h5w_step_laws.proofs.RangeLemmas.{among_right}
 use Rattle.h5w_space.specs.Space.{Space, Commits}
 use Rattle.h5w_cache.specs.Stores.{Store, place_of}
 use Rattle.h5w_cache.specs.Plans.{bytes_in}
 use Rattle.h5w_cache.specs.StoreLaws.{Standing, range_of}
 use Rattle.h5w_cache.specs.declared.moves.Move.{Move}
-use Rattle.h5w_header_laws.specs.Files.{commit_at}
+use Rattle.h5w_step_laws.specs.Files.{commit_at}
 use Rattle.h5w_step_laws.specs.Moments.{Moment}
 use Rattle.h5w_step_laws.proofs.MomentLemmas.{parts_of}
 use Rattle.h5w_array_laws.specs.ArrayStores.{header_place}

@@ -6,10 +6,10 @@ use Rattle.h5w_model.specs.Prefixed.{StaysDefined}
 use Rattle.h5w_model.specs.declared.cell.Key.{Key}
 use Rattle.h5w_model.specs.declared.cell.IndexKind.TheVariants.{Array}
 use Rattle.h5w_model.specs.declared.piece.Write.{Write}
-use Rattle.h5w_visit_laws.specs.Ranges.{Among, AllAmong}
-use Rattle.h5w_visit_laws.specs.Needed.{AreFew}
+use Rattle.h5w_step_laws.specs.Ranges.{Among, AllAmong}
+use Rattle.h5w_step_laws.specs.Needed.{AreFew}
 use Rattle.h5w_chunks.specs.declared.grid.ChunkPlace.{ChunkPlace}
-use Rattle.h5w_header_laws.specs.Files.{with_rows}
+use Rattle.h5w_step_laws.specs.Files.{with_rows}
 use Rattle.h5w_space.specs.Space.{Space, Commits}
 use Rattle.h5w_cache.specs.StoreLaws.{Standing}
 use Rattle.h5w_cache.specs.Stores.{Store}

@@ -6,8 +6,8 @@ use Rattle.std.proofs.lemmas.Bool.{cases_eq}
 use Rattle.std.proofs.lemmas.Bool.Decides.{eqb_tells}
 use Rattle.h5w_model.specs.Numbers.{undefined}
 use Rattle.h5w_model.specs.Findings.{Used}
-use Rattle.h5w_visit_laws.specs.Ranges.{Among, chunk_at}
-use Rattle.h5w_visit_laws.proofs.RangeLemmas.{among_left, among_right, among_split}
+use Rattle.h5w_step_laws.specs.Ranges.{Among, chunk_at}
+use Rattle.h5w_step_laws.proofs.RangeLemmas.{among_left, among_right, among_split}
 use Rattle.h5w_step_laws.proofs.PartLemmas.{count_joined}
 use Rattle.h5w_array_laws.specs.ArrayStores.{chunks_in}
 use Rattle.h5w_array_laws.specs.Among.{AreAmong}

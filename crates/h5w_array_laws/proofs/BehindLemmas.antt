@@ -15,8 +15,8 @@ use Rattle.h5w_cache.specs.Plans.{IsPlan, bytes_of}
 use Rattle.h5w_cache.specs.declared.moves.Move.{Move}
 use Rattle.h5w_cache.proofs.MoveLemmas.{Apart-sides, two_apart}
 use Rattle.h5w_cache.proofs.LawLemmas.{no_move}
-use Rattle.h5w_visit_laws.specs.Ranges.{Among, AreApart, Disjoint, block_at}
-use Rattle.h5w_visit_laws.proofs.RangeLemmas.{among_split}
+use Rattle.h5w_step_laws.specs.Ranges.{Among, AreApart, Disjoint, block_at}
+use Rattle.h5w_step_laws.proofs.RangeLemmas.{among_split}
 use Rattle.h5w_step_laws.specs.Counts.{count_at}
 use Rattle.h5w_step_laws.proofs.PartLemmas.{at_most_one, counted_one, counted_else}
 use Rattle.h5w_array_laws.specs.Parts.{Part, index_block, number_of, length_of, visit_order}

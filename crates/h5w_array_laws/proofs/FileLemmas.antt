@@ -13,11 +13,11 @@ use Rattle.h5w_model.specs.declared.cell.Key.{Key}
 use Rattle.h5w_model.specs.declared.refusal.ReadError.{ReadError}
 use Rattle.h5w_cache.specs.Stores.{times}
 use Rattle.h5w_laws.proofs.EndLemmas.{same_ranges}
-use Rattle.h5w_visit_laws.specs.Ranges.{Among, AllEndBy, block_at}
-use Rattle.h5w_visit_laws.specs.Indexes.{IsIndex, behind_visit}
-use Rattle.h5w_visit_laws.proofs.RangeLemmas.{ends_nil, ends_cons, ends_later}
-use Rattle.h5w_visit_laws.proofs.IndexLaws.{index_by_end, index_of_parts}
-use Rattle.h5w_visit_laws.proofs.NeededLaws.{table_laws}
+use Rattle.h5w_step_laws.specs.Ranges.{Among, AllEndBy, block_at}
+use Rattle.h5w_step_laws.specs.Indexes.{IsIndex, behind_visit}
+use Rattle.h5w_step_laws.proofs.RangeLemmas.{ends_nil, ends_cons, ends_later}
+use Rattle.h5w_step_laws.proofs.IndexLaws.{index_by_end, index_of_parts}
+use Rattle.h5w_step_laws.proofs.NeededLaws.{table_laws}
 use Rattle.h5w_step_laws.specs.Moments.{Moment}
 use Rattle.h5w_step_laws.specs.Plans.{Plan, UnseenRange}
 use Rattle.h5w_step_laws.proofs.MomentLemmas.{few}

@@ -18,7 +18,7 @@ use Rattle.h5w_cache.specs.declared.moves.Move.{Move}
 use Rattle.h5w_cache.proofs.PlannedLemmas.{kept_inside, same_times, times-other, times-same}
 use Rattle.h5w_cache.proofs.MoveLemmas.{found_move}
 use Rattle.h5w_cache.proofs.LawLemmas.{no_move}
-use Rattle.h5w_visit_laws.specs.Ranges.{Among, block_at}
+use Rattle.h5w_step_laws.specs.Ranges.{Among, block_at}
 use Rattle.h5w_array_laws.specs.Parts.{Part, data_of, secondary_of, index_block, header, IsPart, number_of, length_of, stays_in_place}
 use Rattle.h5w_array_laws.specs.ArrayStores.{IsArray, IsBlock, block_at_part, place_at_part, bytes_at_part, header_place, fixed_of}
 use Rattle.h5w_array_laws.specs.ArrayImages.{AreInPlace}

@@ -18,7 +18,7 @@ use Rattle.h5w_cache.specs.declared.moves.Move.{Move}
 use Rattle.h5w_cache.proofs.MoveLemmas.{Apart-sides, move_live, moves_live, placed_retired, retired_live, took_of}
 use Rattle.h5w_cache.proofs.FinishLemmas.{retired_end}
 use Rattle.h5w_cache.proofs.LawLemmas.{no_move}
-use Rattle.h5w_visit_laws.specs.Ranges.{Among, AllEndBy, AllSome, AreApart, Disjoint, block_at}
+use Rattle.h5w_step_laws.specs.Ranges.{Among, AllEndBy, AllSome, AreApart, Disjoint, block_at}
 use Rattle.h5w_array_laws.specs.ArrayPlans.{fresh, extent_of}
 use Rattle.h5w_array_laws.proofs.StoreLemmas.{move_at}
 

@@ -10,7 +10,7 @@ use Rattle.h5w_model.specs.Tables.{InPlace, nowhere, in_array, in_place, array_i
 use Rattle.h5w_model.specs.declared.cell.IndexKind.TheVariants.{Array, Tree}
 use Rattle.h5w_model.specs.declared.refusal.ReadError.{ReadError}
 use Rattle.h5w_model.specs.declared.refusal.ReadError.TheVariants.{Damaged}
-use Rattle.h5w_visit_laws.proofs.IndexVisits.{look_at, block_read}
+use Rattle.h5w_step_laws.proofs.IndexVisits.{look_at, block_read}
 use Rattle.h5w_array_laws.proofs.BlockLemmas.{index_head, index_decoded}
 use Rattle.h5w_array_laws.proofs.VisitLemmas.{IsThere, range_there}
 

@@ -1,19 +1,19 @@
-pub mod BlockLemmas
-pub mod VisitLemmas
-pub mod SlotLemmas
+mod BlockLemmas
+mod VisitLemmas
+mod SlotLemmas
 pub mod GeometryLemmas
 pub mod InPlaceLemmas
 pub mod AmongLemmas
 pub mod NumberLemmas
-pub mod LinkLemmas
+mod LinkLemmas
 pub mod StoreLemmas
 pub mod KeptLemmas
-pub mod ReadLemmas
+mod ReadLemmas
 pub mod VisitedLemmas
 pub mod FoundLemmas
 pub mod StandLemmas
 pub mod PlanLemmas
-pub mod SpelledLemmas
+mod SpelledLemmas
 pub mod PlannedLemmas
 pub mod FreshLemmas
 pub mod FixedLemmas
@@ -27,4 +27,4 @@ pub mod NumberedLemmas
 pub mod TableLemmas
 pub mod NamingLemmas
 pub mod FileLemmas
-pub mod UnseenLemmas
+mod UnseenLemmas

@@ -12,8 +12,8 @@ use Rattle.h5w_cache.specs.Stores.{Store, place_of}
 use Rattle.h5w_cache.specs.Plans.{bytes_in}
 use Rattle.h5w_cache.specs.StoreLaws.{Standing}
 use Rattle.h5w_cache.proofs.LawLemmas.{standing_after}
-use Rattle.h5w_visit_laws.specs.Ranges.{Among, AllEndBy, Disjoint, block_at}
-use Rattle.h5w_visit_laws.proofs.RangeLemmas.{among_left, among_right, among_split, ends_left}
+use Rattle.h5w_step_laws.specs.Ranges.{Among, AllEndBy, Disjoint, block_at}
+use Rattle.h5w_step_laws.proofs.RangeLemmas.{among_left, among_right, among_split, ends_left}
 use Rattle.h5w_step_laws.specs.Moments.{Moment, Represents, all_used}
 use Rattle.h5w_step_laws.specs.Steps.{OffAll, Clear, Step}
 use Rattle.h5w_step_laws.specs.Writers.{Naming}

@@ -12,8 +12,8 @@ use Rattle.h5w_model.specs.Tables.{super_block_of_first}
 use Rattle.h5w_model.specs.Findings.{Used, both, first_visits, second_visits, data_block_visit, secondary_block_visit}
 use Rattle.h5w_cache.specs.Blocks.{BlockView}
 use Rattle.h5w_cache.specs.Stores.{Store}
-use Rattle.h5w_visit_laws.specs.Ranges.{AllEndBy, block_at}
-use Rattle.h5w_visit_laws.proofs.RangeLemmas.{ends_left, ends_right}
+use Rattle.h5w_step_laws.specs.Ranges.{AllEndBy, block_at}
+use Rattle.h5w_step_laws.proofs.RangeLemmas.{ends_left, ends_right}
 use Rattle.h5w_array_laws.specs.Parts.{Part, data_of, secondary_of, IsPart, number_of, length_of, data_blocks_of}
 use Rattle.h5w_array_laws.specs.ArrayStores.{IsArray, block_at_part, place_at_part, bytes_at_part, chunks_in, slots_in, own_range, ranges_of}
 use Rattle.h5w_array_laws.specs.ArrayImages.{BehindStands}

@@ -15,7 +15,7 @@ use Rattle.h5w_laws.proofs.ResultLemmas.{fits_in}
 use Rattle.h5w_cache.specs.Stores.{Store, place_of, times}
 use Rattle.h5w_cache.specs.Plans.{bytes_in, bytes_of}
 use Rattle.h5w_cache.specs.StoreLaws.{IsPlaced}
-use Rattle.h5w_visit_laws.specs.Ranges.{block_at, blocks_of, visits_of}
+use Rattle.h5w_step_laws.specs.Ranges.{block_at, blocks_of, visits_of}
 use Rattle.h5w_array_laws.specs.Parts.{index_block, header}
 use Rattle.h5w_array_laws.specs.ArrayStores.{IsArray, IsBlock, block_at_part, place_at_part, bytes_at_part, header_place}
 use Rattle.h5w_array_laws.specs.ArrayImages.{HeaderStands, SaysArray, ArrayStays, StandingSays}

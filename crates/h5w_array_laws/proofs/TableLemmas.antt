@@ -7,8 +7,8 @@ use Rattle.h5w_model.specs.Programs.{Prog, ret, eval, and_then}
 use Rattle.h5w_model.specs.Tables.{address_behind, each_of, needed_keys}
 use Rattle.h5w_model.specs.declared.refusal.ReadError.{ReadError}
 use Rattle.h5w_laws.proofs.ResultLemmas.{and_then_from}
-use Rattle.h5w_visit_laws.specs.Indexes.{IsNamed}
-use Rattle.h5w_visit_laws.proofs.NeededLaws.{needed_named}
+use Rattle.h5w_step_laws.specs.Indexes.{IsNamed}
+use Rattle.h5w_step_laws.proofs.NeededLaws.{needed_named}
 use Rattle.h5w_array_laws.specs.ArrayStores.{map_of, blocks_in_place}
 use Rattle.h5w_array_laws.specs.ArrayTables.{ArrayTable, PlanIsRead}
 use Rattle.h5w_array_laws.proofs.FoundLemmas.{address_found}

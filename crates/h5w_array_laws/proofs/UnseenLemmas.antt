@@ -3,8 +3,8 @@ use Rattle.std.proofs.Common.{◌⊎◌, ◌<◌, List, [], ◌∷◌, ◌++◌,
 use Rattle.h5w_model.specs.Findings.{Used}
 use Rattle.h5w_space.specs.Space.{Apart}
 use Rattle.h5w_cache.proofs.MoveLemmas.{Apart-sides}
-use Rattle.h5w_visit_laws.specs.Ranges.{Among, AreApart, Disjoint}
-use Rattle.h5w_visit_laws.proofs.RangeLemmas.{among_split}
+use Rattle.h5w_step_laws.specs.Ranges.{Among, AreApart, Disjoint}
+use Rattle.h5w_step_laws.proofs.RangeLemmas.{among_split}
 use Rattle.h5w_step_laws.specs.Moments.{all_used}
 use Rattle.h5w_step_laws.proofs.PartLemmas.{disjoint_some}
 use Rattle.h5w_step_laws.proofs.PlanLaws.{free_place}

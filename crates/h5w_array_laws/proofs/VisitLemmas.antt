@@ -11,7 +11,7 @@ use Rattle.h5w_model.specs.Arrays.{slots_fields, slots_len, numbers_in, super_bl
 use Rattle.h5w_model.specs.Datasets.{then_also}
 use Rattle.h5w_model.specs.Findings.{found, Used, Visited, block_in, both, visit_each, data_block_visit, secondary_block_visit, chunk_ranges, chunk_past_end, block_past_end, bad_data_block, bad_secondary_block}
 use Rattle.h5w_laws.proofs.ResultLemmas.{and_then_from, then_from, choice_from}
-use Rattle.h5w_visit_laws.specs.Ranges.{AllEndBy, block_at, chunk_at}
+use Rattle.h5w_step_laws.specs.Ranges.{AllEndBy, block_at, chunk_at}
 use Rattle.h5w_array_laws.specs.ArrayStores.{chunks_in}
 use Rattle.h5w_array_laws.proofs.BlockLemmas.{IsSealed, data_head, secondary_head, data_decoded, secondary_decoded}
 

@@ -14,9 +14,9 @@ use Rattle.h5w_model.specs.Findings.{Used, both, chunk_ranges, first_visits, sec
 use Rattle.h5w_model.proofs.ArrayLemmas.{length-numbers_in}
 use Rattle.h5w_cache.specs.Blocks.{BlockView}
 use Rattle.h5w_cache.specs.Stores.{Store}
-use Rattle.h5w_visit_laws.specs.Ranges.{AllEndBy}
-use Rattle.h5w_visit_laws.specs.Indexes.{behind_visit}
-use Rattle.h5w_visit_laws.proofs.RangeLemmas.{ends_left, ends_right}
+use Rattle.h5w_step_laws.specs.Ranges.{AllEndBy}
+use Rattle.h5w_step_laws.specs.Indexes.{behind_visit}
+use Rattle.h5w_step_laws.proofs.RangeLemmas.{ends_left, ends_right}
 use Rattle.h5w_array_laws.specs.Parts.{Part, data_of, secondary_of, index_block, children, parent, first_parts, second_parts, data_blocks_of, visit_order}
 use Rattle.h5w_array_laws.specs.ArrayStores.{IsArray, block_at_part, place_at_part, chunks_in, slots_in, ranges_of, behind_of, blocks_in_place}
 use Rattle.h5w_array_laws.specs.ArrayImages.{BehindStands}

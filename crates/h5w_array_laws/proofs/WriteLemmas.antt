@@ -20,7 +20,7 @@ use Rattle.h5w_cache.specs.StoreLaws.{IsPlaced, IsRetired, range_of}
 use Rattle.h5w_cache.specs.declared.moves.Move.{Move}
 use Rattle.h5w_cache.proofs.MoveLemmas.{Apart-sides}
 use Rattle.h5w_cache.proofs.LawLemmas.{standing_after, no_move}
-use Rattle.h5w_visit_laws.specs.Ranges.{block_at}
+use Rattle.h5w_step_laws.specs.Ranges.{block_at}
 use Rattle.h5w_array_laws.specs.Parts.{Part, data_of, secondary_of, index_block, header, IsPart, number_of}
 use Rattle.h5w_array_laws.specs.ArrayStores.{IsArray, place_at_part, bytes_at_part, header_place}
 use Rattle.h5w_array_laws.specs.ArrayImages.{HeaderStands, StandsArray}

@@ -14,8 +14,8 @@ use Rattle.h5w_cache.specs.Stores.{Store, place_of}
 use Rattle.h5w_cache.specs.Plans.{IsPlan, bytes_in}
 use Rattle.h5w_cache.specs.StoreLaws.{AreThere, IsPlaced, Standing, KeepsStore}
 use Rattle.h5w_cache.specs.declared.moves.Move.{Move}
-use Rattle.h5w_visit_laws.specs.Ranges.{AllEndBy, blocks_of, visits_of}
-use Rattle.h5w_visit_laws.specs.Indexes.{behind_visit}
+use Rattle.h5w_step_laws.specs.Ranges.{AllEndBy, blocks_of, visits_of}
+use Rattle.h5w_step_laws.specs.Indexes.{behind_visit}
 use Rattle.h5w_array_laws.specs.Parts.{index_block, header}
 use Rattle.h5w_array_laws.specs.ArrayStores.{IsArray, place_at_part, bytes_at_part, header_place, map_of, fixed_of, blocks_in_place, behind_of, created_header, created_index, IsCreated, IsHeaded, IsNumbered}
 

@@ -11,7 +11,7 @@ use Rattle.h5w_cache.specs.Stores.{Store}
 use Rattle.h5w_cache.specs.Plans.{IsPlan}
 use Rattle.h5w_cache.specs.StoreLaws.{IsRetired}
 use Rattle.h5w_cache.specs.declared.moves.Move.{Move}
-use Rattle.h5w_visit_laws.specs.Ranges.{Among, AllEndBy, Disjoint}
+use Rattle.h5w_step_laws.specs.Ranges.{Among, AllEndBy, Disjoint}
 use Rattle.h5w_step_laws.specs.Moments.{Moment, Represents, HasCells, all_used}
 use Rattle.h5w_step_laws.specs.Steps.{OffAll, Clear}
 use Rattle.h5w_step_laws.specs.Plans.{Plan, UnseenRange}

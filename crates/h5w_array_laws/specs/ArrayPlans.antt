@@ -10,7 +10,7 @@ use Rattle.h5w_cache.specs.Stores.{Store}
 use Rattle.h5w_cache.specs.Plans.{IsPlan}
 use Rattle.h5w_cache.specs.StoreLaws.{IsRetired, KeepsStore, Standing}
 use Rattle.h5w_cache.specs.declared.moves.Move.{Move}
-use Rattle.h5w_visit_laws.specs.Ranges.{Among, AllEndBy, Disjoint, block_at}
+use Rattle.h5w_step_laws.specs.Ranges.{Among, AllEndBy, Disjoint, block_at}
 use Rattle.h5w_array_laws.specs.Among.{AreAmong}
 use Rattle.h5w_array_laws.specs.ArrayStores.{IsArray, IsHeaded, IsNumbered, map_of, fixed_of, behind_of}
 use Rattle.h5w_array_laws.specs.ArrayImages.{AreInPlace}

@@ -6,7 +6,7 @@ use Rattle.h5w_model.specs.Checksum.{is_sealed}
 use Rattle.h5w_model.specs.Arrays.{numbers_in, eahd_len, eaib_len, eaib_fields, eahd_bytes, eaib_bytes}
 use Rattle.h5w_model.specs.Tables.{InPlace, in_array}
 use Rattle.h5w_model.specs.Findings.{Used}
-use Rattle.h5w_visit_laws.specs.Ranges.{block_at, chunk_at}
+use Rattle.h5w_step_laws.specs.Ranges.{block_at, chunk_at}
 use Rattle.h5w_cache.specs.Blocks.{BlockView}
 use Rattle.h5w_cache.specs.Stores.{Store, block_of, place_of, is_changed}
 use Rattle.h5w_cache.specs.Plans.{bytes_of}

@@ -10,9 +10,9 @@ use Rattle.h5w_model.specs.declared.piece.Write.{Write}
 use Rattle.h5w_space.specs.Space.{Space}
 use Rattle.h5w_cache.specs.Stores.{Store}
 use Rattle.h5w_cache.specs.declared.moves.Move.{Move}
-use Rattle.h5w_visit_laws.specs.Ranges.{AllEndBy, visits_of}
-use Rattle.h5w_visit_laws.specs.Indexes.{IsIndex}
-use Rattle.h5w_visit_laws.specs.Needed.{AreFew}
+use Rattle.h5w_step_laws.specs.Ranges.{AllEndBy, visits_of}
+use Rattle.h5w_step_laws.specs.Indexes.{IsIndex}
+use Rattle.h5w_step_laws.specs.Needed.{AreFew}
 use Rattle.h5w_array_laws.specs.ArrayStores.{IsArray, map_of, fixed_of, behind_of, header_place, blocks_in_place}
 use Rattle.h5w_array_laws.specs.ArrayImages.{HeaderStands, StandsArray, IsPlanned, IsRead}
 

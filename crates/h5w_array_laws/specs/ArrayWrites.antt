@@ -9,7 +9,7 @@ use Rattle.h5w_cache.specs.Stores.{Store, place_of}
 use Rattle.h5w_cache.specs.Plans.{IsPlan, bytes_in}
 use Rattle.h5w_cache.specs.StoreLaws.{IsPlaced, IsRetired}
 use Rattle.h5w_cache.specs.declared.moves.Move.{Move}
-use Rattle.h5w_visit_laws.specs.Ranges.{block_at}
+use Rattle.h5w_step_laws.specs.Ranges.{block_at}
 use Rattle.h5w_array_laws.specs.ArrayStores.{IsArray, header_place}
 use Rattle.h5w_array_laws.specs.ArrayImages.{HeaderStands, StandsArray, BehindStands, IsPlanned}
 use Rattle.h5w_array_laws.specs.ArrayPlans.{fresh}

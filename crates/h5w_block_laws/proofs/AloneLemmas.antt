@@ -13,10 +13,10 @@ use Rattle.h5w_model.specs.declared.piece.Write.{Write}
 use Rattle.h5w_model.specs.declared.refusal.ReadError.{ReadError}
 use Rattle.h5w_model.specs.declared.refusal.ReadError.TheVariants.{Damaged}
 use Rattle.h5w_model.proofs.ImageLemmas.{range-apply_missed}
-use Rattle.h5w_visit_laws.specs.Ranges.{Among, block_at, blocks_of}
-use Rattle.h5w_visit_laws.specs.Indexes.{behind_visit}
-use Rattle.h5w_visit_laws.proofs.RangeLemmas.{among_left, among_right}
-use Rattle.h5w_visit_laws.proofs.IndexVisits.{look_at, block_read}
+use Rattle.h5w_step_laws.specs.Ranges.{Among, block_at, blocks_of}
+use Rattle.h5w_step_laws.specs.Indexes.{behind_visit}
+use Rattle.h5w_step_laws.proofs.RangeLemmas.{among_left, among_right}
+use Rattle.h5w_step_laws.proofs.IndexVisits.{look_at, block_read}
 use Rattle.h5w_step_laws.specs.Moments.{Moment, Represents}
 use Rattle.h5w_step_laws.proofs.StepRepresents.{MissesEach, ends_missed}
 use Rattle.h5w_array_laws.proofs.InPlaceLemmas.{from_header, header_read, of_dataset}

@@ -4,13 +4,13 @@ use Rattle.std.specs.Prelude.{min, ℤ}
 use Rattle.h5w_model.specs.Arrays.{eahd_len, eaib_len}
 use Rattle.h5w_model.specs.Findings.{Used}
 use Rattle.h5w_model.specs.declared.piece.Write.{Write}
-use Rattle.h5w_visit_laws.specs.Ranges.{Among, AreApart, Disjoint, block_at}
+use Rattle.h5w_step_laws.specs.Ranges.{Among, AreApart, Disjoint, block_at}
 use Rattle.h5w_space.specs.Space.{Space, IsLive}
 use Rattle.h5w_cache.specs.Stores.{Store}
 use Rattle.h5w_cache.specs.StoreLaws.{Standing}
 use Rattle.h5w_cache.specs.declared.moves.Move.{Move}
 use Rattle.h5w_chunks.specs.declared.grid.ChunkPlace.{ChunkPlace}
-use Rattle.h5w_header_laws.specs.Files.{commit_at}
+use Rattle.h5w_step_laws.specs.Files.{commit_at}
 use Rattle.h5w_step_laws.specs.Moments.{Moment, all_used}
 use Rattle.h5w_step_laws.specs.Logs.{image_now}
 use Rattle.h5w_step_laws.proofs.MomentLemmas.{in_fixed}
@@ -98,16 +98,11 @@ module _ (img name : List ℕ) (m : Moment) (base b t : Space) (place : ℕ) (u 
     copies = has.copies;
     blocks = has.writes;
     start = record {
-      rises = c.rises;
-      small = c.small;
-      few = c.few;
-      count = c.count;
+      rising = c.rising has.copies;
       blank = blank;
       at = c.made.created.header_at;
       taken = subst (λ p. Taken base (block_at p eaib_len ∷ chunks) b) (sym c.made.created.index_at) c.taken;
-      placed = c.placed has.copies;
       part = has.part;
-      ended = c.ended;
     };
     pieces = λ ws o.
         let cut = one_last o.front o.behind (block_piece w) (top_piece w) (o.cut ∙ pieces_are.two) (o.one ∙ ap (λ (ws : List Write). min 1 (length ws)) pieces_are.two) in

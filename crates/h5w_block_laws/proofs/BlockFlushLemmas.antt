@@ -7,13 +7,13 @@ use Rattle.h5w_model.specs.Arrays.{eahd_len, eaib_len}
 use Rattle.h5w_model.specs.Findings.{Used, the_superblock}
 use Rattle.h5w_model.specs.declared.piece.Write.{Write}
 use Rattle.h5w_model.proofs.ImageLemmas.{At-apply, At-apply_missed, At-image_missed, image-push}
-use Rattle.h5w_visit_laws.specs.Ranges.{Among, AreApart, Disjoint, block_at}
+use Rattle.h5w_step_laws.specs.Ranges.{Among, AreApart, Disjoint, block_at}
 use Rattle.h5w_space.specs.Space.{Space}
 use Rattle.h5w_cache.specs.Stores.{Store}
 use Rattle.h5w_cache.specs.StoreLaws.{Standing}
 use Rattle.h5w_cache.specs.declared.moves.Move.{Move}
 use Rattle.h5w_chunks.specs.declared.grid.ChunkPlace.{ChunkPlace}
-use Rattle.h5w_header_laws.specs.Files.{commit_at}
+use Rattle.h5w_step_laws.specs.Files.{commit_at}
 use Rattle.h5w_step_laws.specs.Moments.{Moment, all_used}
 use Rattle.h5w_step_laws.specs.Steps.{LiesIn}
 use Rattle.h5w_step_laws.proofs.PartLemmas.{apart_sym, disjoint_apart}
@@ -123,7 +123,7 @@ module _ (img name : List ℕ) (m : Moment) (base b t : Space) (u v w : Store) (
   super_off = apart_sym top the_superblock (disjoint_apart (top ∷ chunks) (all_used m) top the_superblock off_file (inl refl) (inl refl))
 
   supers_off : AllMiss supers (place_at_part w index_block) (length (bytes_at_part w index_block))
-  supers_off = subst (λ n. AllMiss supers (place_at_part w index_block) n) (sym (index_length w planned.array)) (end_misses m.super t.end supers top x.ended super_off)
+  supers_off = subst (λ n. AllMiss supers (place_at_part w index_block) n) (sym (index_length w planned.array)) (end_misses m.super t.end supers top x.rising.ended super_off)
 
   index_ended : At (ended img f) (place_at_part w index_block) (bytes_at_part w index_block)
   index_ended = At-image_missed (copied img f) supers (place_at_part w index_block) (bytes_at_part w index_block) supers_off index_copied
@@ -164,11 +164,11 @@ module _ (img name : List ℕ) (m : Moment) (base b t : Space) (u v w : Store) (
   first_says : SaysFirst img m f
   first_says =
       first.array_says m base b t u v w ms rows more writes places copies (new_block w) fixed supers (top_piece w ∷ []) None (top ∷ []) x.blank x.part shows img behind
-      (lies, record { says = says.says; looks = sym says.looks }, tt) (λ none. absurd cc)
+      (lies, record { says = says.says; looks = sym says.looks }, tt) (λ none. absurd cc) tt
 
   pub block_first : IsFirstFlush img m r.knows.held base t (block_parts_for m w rows more writes places copies supers t.end)
   block_first =
-      first_is_flush img name m base t f (top ∷ []) (fresh ms) places r.knows (record { rises = x.rises; small = x.small; few = x.few; count = x.count; placed = x.placed; ended = x.ended; named = tt })
+      first_is_flush img name m base t f (top ∷ []) (fresh ms) places r.knows x.rising
       (first.array_takes m base b t u v w ms rows more writes places copies (new_block w) fixed supers (top_piece w ∷ []) None (top ∷ []) x.blank x.part shows taken) first_says
 
 pub block_is_flush : BlockIsFlush

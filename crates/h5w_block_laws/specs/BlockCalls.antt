@@ -1,14 +1,13 @@
 -- Such a flush by what its calls give: a place is taken for the index block, an array is made with its header where the file's is, the chunks get
 -- their places and the array names them, and its changed blocks are planned.
-use Rattle.std.specs.Prelude.{◌≡◌, ℕ, ◌*◌, ◌^◌, ◌<◌, List, [], ◌∷◌, ◌++◌, length, min, None, ℤ}
+use Rattle.std.specs.Prelude.{◌≡◌, ℕ, List, [], ◌∷◌, ◌++◌, length, min, None, ℤ}
 use Rattle.h5w_model.specs.Logs.{Log, appended}
 use Rattle.h5w_model.specs.Arrays.{eaib_len}
 use Rattle.h5w_model.specs.Findings.{chunk_bytes}
 use Rattle.h5w_model.specs.declared.piece.Write.{Write}
-use Rattle.h5w_visit_laws.specs.Ranges.{block_at}
-use Rattle.h5w_visit_laws.specs.Needed.{AreFew}
+use Rattle.h5w_step_laws.specs.Ranges.{block_at}
 use Rattle.h5w_chunks.specs.declared.grid.ChunkPlace.{ChunkPlace}
-use Rattle.h5w_header_laws.specs.Files.{commit_at, with_rows}
+use Rattle.h5w_step_laws.specs.Files.{commit_at}
 use Rattle.h5w_space.specs.Space.{Space}
 use Rattle.h5w_cache.specs.Stores.{Store}
 use Rattle.h5w_cache.specs.declared.moves.Move.{Move}
@@ -17,10 +16,9 @@ use Rattle.h5w_step_laws.specs.Logs.{image_now}
 use Rattle.h5w_step_laws.specs.Sessions.{Runs}
 use Rattle.h5w_array_laws.specs.ArrayPlans.{IsArrayPlan}
 use Rattle.h5w_flush_laws.specs.Spaces.{Taken}
-use Rattle.h5w_flush_laws.specs.Parts.{AreEnded, block_writes, pieces_of}
-use Rattle.h5w_flush_laws.specs.Rows.{ArePlaced}
+use Rattle.h5w_flush_laws.specs.Parts.{block_writes, pieces_of}
 use Rattle.h5w_flush_laws.specs.Chunks.{chunks_for}
-use Rattle.h5w_first_flush_laws.specs.FirstFlushes.{no_chunk}
+use Rattle.h5w_first_flush_laws.specs.FirstFlushes.{RisesTo, no_chunk}
 use Rattle.h5w_first_flush_laws.specs.StartCalls.{ArePending, IsMade, NamesChunks}
 use Rattle.h5w_block_laws.specs.HeaderAlone.{AloneKnows}
 use Rattle.h5w_block_laws.specs.BlockFlushes.{IsBlockStart, block_parts_for}
@@ -28,17 +26,12 @@ use Rattle.h5w_block_laws.specs.BlockFlushes.{IsBlockStart, block_parts_for}
 -- the calls of such a flush
 pub record AreBlockCalls (img : List ℕ) (m : Moment) (base b : Space) (place : ℕ) (u v : Store) (ms : List Move) (w : Store) (t : Space) (rows : ℕ) (more : List ℤ) (writes : List Write) (places : List ChunkPlace)
     (cs fixed supers : List Write) : Type 0 where
-  pub rises : m.dataset.shape.rows < rows
-  pub small : rows < 2 ^ 64
-  pub few : AreFew (with_rows rows m.dataset)
-  pub count : length (m.values ++ more) ≡ rows * m.dataset.shape.cols
+  pub rising : (copies : List (ℕ × List ℕ)) → RisesTo img m (block_parts_for m w rows more writes places copies supers t.end) places
   -- the places of the index block and of the new chunks, in whatever order they were taken
   pub taken : Taken base (block_at place eaib_len ∷ chunks_for m no_chunk places) b
   pub made : IsMade m.dataset.layout.address place u
   pub names : NamesChunks (chunk_bytes m.dataset) u (chunks_for m no_chunk places) v
-  pub placed : (copies : List (ℕ × List ℕ)) → ArePlaced img m no_chunk (block_parts_for m w rows more writes places copies supers t.end) places
   pub plan : IsArrayPlan v b ms cs fixed w t
-  pub ended : AreEnded m.super t.end supers
 
 -- All pieces: rows, copies, index block, superblock, array's header, and last the dataset header. Of the array's writes in place the last one
 -- comes behind the superblock.

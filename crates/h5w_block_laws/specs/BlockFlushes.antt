@@ -1,13 +1,12 @@
 -- The first flush of a file whose array is a header alone: its index block is made at a new place, and the header, where it stands, names it.
-use Rattle.std.specs.Prelude.{◌≡◌, ℕ, ◌*◌, ◌^◌, ◌<◌, List, [], ◌∷◌, ◌++◌, length, None, ℤ}
+use Rattle.std.specs.Prelude.{◌≡◌, ℕ, List, [], ◌∷◌, ◌++◌, None, ℤ}
 use Rattle.h5w_model.specs.Arrays.{eaib_len}
 use Rattle.h5w_model.specs.Findings.{Used, chunk_bytes}
 use Rattle.h5w_model.specs.Logs.{Log, appended}
 use Rattle.h5w_model.specs.declared.piece.Write.{Write}
-use Rattle.h5w_visit_laws.specs.Needed.{AreFew}
-use Rattle.h5w_visit_laws.specs.Ranges.{block_at}
+use Rattle.h5w_step_laws.specs.Ranges.{block_at}
 use Rattle.h5w_chunks.specs.declared.grid.ChunkPlace.{ChunkPlace}
-use Rattle.h5w_header_laws.specs.Files.{commit_at, with_rows}
+use Rattle.h5w_step_laws.specs.Files.{commit_at}
 use Rattle.h5w_space.specs.Space.{Space}
 use Rattle.h5w_cache.specs.Stores.{Store}
 use Rattle.h5w_cache.specs.declared.moves.Move.{Move}
@@ -17,10 +16,9 @@ use Rattle.h5w_step_laws.specs.Sessions.{Runs}
 use Rattle.h5w_array_laws.specs.Parts.{index_block, header}
 use Rattle.h5w_array_laws.specs.ArrayStores.{place_at_part, bytes_at_part, header_place}
 use Rattle.h5w_flush_laws.specs.Spaces.{Taken}
-use Rattle.h5w_flush_laws.specs.Parts.{Parts, AreEnded, IsFlush, pieces_of, block_writes}
-use Rattle.h5w_flush_laws.specs.Rows.{ArePlaced}
+use Rattle.h5w_flush_laws.specs.Parts.{Parts, IsFlush, pieces_of, block_writes}
 use Rattle.h5w_flush_laws.specs.Chunks.{chunks_for}
-use Rattle.h5w_first_flush_laws.specs.FirstFlushes.{no_chunk}
+use Rattle.h5w_first_flush_laws.specs.FirstFlushes.{RisesTo, no_chunk}
 use Rattle.h5w_first_flush_laws.specs.Starting.{IsBlank}
 use Rattle.h5w_first_flush_laws.specs.StartFlushes.{IsStarted, IsStartedOver, IsStartingPart, first_parts}
 use Rattle.h5w_block_laws.specs.HeaderAlone.{AloneKnows}
@@ -49,17 +47,12 @@ block_parts_for m w rows more writes places copies supers last = block_parts (ch
 -- is at the place of the file's.
 pub record IsBlockStart (img : List ℕ) (m : Moment) (base b : Space) (u v : Store) (ms : List Move) (w : Store) (t : Space) (rows : ℕ) (more : List ℤ) (writes : List Write) (places : List ChunkPlace) (copies : List (ℕ × List ℕ))
     (fixed supers : List Write) : Type 0 where
-  pub rises : m.dataset.shape.rows < rows
-  pub small : rows < 2 ^ 64
-  pub few : AreFew (with_rows rows m.dataset)
-  pub count : length (m.values ++ more) ≡ rows * m.dataset.shape.cols
+  pub rising : RisesTo img m (block_parts_for m w rows more writes places copies supers t.end) places
   pub blank : IsBlank u
   pub at : header_place u ≡ m.dataset.layout.address
   -- the places of the index block and of the new chunks, in whatever order they were taken
   pub taken : Taken base (block_at (place_at_part u index_block) eaib_len ∷ chunks_for m no_chunk places) b
-  pub placed : ArePlaced img m no_chunk (block_parts_for m w rows more writes places copies supers t.end) places
   pub part : IsStartingPart m u v b ms w t (chunks_for m no_chunk places) copies fixed
-  pub ended : AreEnded m.super t.end supers
 
 -- ---- Laws
 

@@ -6,7 +6,7 @@ use Rattle.h5w_model.specs.Datasets.{Described}
 use Rattle.h5w_model.specs.Images.{apply}
 use Rattle.h5w_model.specs.declared.cell.IndexKind.TheVariants.{Array}
 use Rattle.h5w_model.specs.declared.piece.Write.{Write}
-use Rattle.h5w_visit_laws.specs.Ranges.{block_at}
+use Rattle.h5w_step_laws.specs.Ranges.{block_at}
 use Rattle.h5w_space.specs.Space.{Space, Commits}
 use Rattle.h5w_step_laws.specs.Moments.{Moment, Represents}
 use Rattle.h5w_step_laws.specs.Steps.{Ends}

@@ -1,14 +1,15 @@
 -- The first flush of an array that is made with it: what its plan gives.
-use Rattle.std.proofs.Common.{◌≡◌, ◌⊎◌, ℕ, ◌+◌, ◌*◌, ◌^◌, ◌<◌, ◌≤◌, List, [], ◌∷◌, ◌++◌, length, Option, refl, sym, ◌∙◌, ap, subst, inl, inr, arith, append-nil}
-use Rattle.std.specs.Prelude.{take, ℤ}
+use Rattle.std.proofs.Common.{◌≡◌, ◌⊎◌, ℕ, ◌^◌, ◌<◌, ◌≤◌, List, [], ◌∷◌, ◌++◌, length, Option, refl, sym, ◌∙◌, ap, subst, inl, inr, arith, append-nil}
+use Rattle.std.specs.Prelude.{IfSome, take, ℤ}
 use Rattle.std.proofs.lemmas.Bool.{cases_lt}
 use Rattle.std.proofs.lemmas.List.{map-append}
 use Rattle.h5w_model.specs.Images.{At, image}
+use Rattle.h5w_model.specs.Numbers.{undefined}
 use Rattle.h5w_model.specs.Findings.{Used, chunk_bytes}
 use Rattle.h5w_model.specs.declared.cell.IndexKind.TheVariants.{Array}
 use Rattle.h5w_model.specs.declared.piece.Write.{Write}
-use Rattle.h5w_visit_laws.specs.Ranges.{block_at}
-use Rattle.h5w_visit_laws.proofs.RangeLemmas.{among_left}
+use Rattle.h5w_step_laws.specs.Ranges.{block_at}
+use Rattle.h5w_step_laws.proofs.RangeLemmas.{among_left}
 use Rattle.h5w_space.specs.Space.{Space}
 use Rattle.h5w_cache.specs.Stores.{Store, place_of, times}
 use Rattle.h5w_cache.specs.Plans.{bytes_in, numbers}
@@ -16,7 +17,7 @@ use Rattle.h5w_cache.specs.StoreLaws.{AreThere}
 use Rattle.h5w_cache.specs.declared.moves.Move.{Move}
 use Rattle.h5w_cache.proofs.LawLemmas.{no_move}
 use Rattle.h5w_chunks.specs.declared.grid.ChunkPlace.{ChunkPlace}
-use Rattle.h5w_header_laws.specs.Files.{with_index}
+use Rattle.h5w_step_laws.specs.Files.{with_index}
 use Rattle.h5w_step_laws.specs.Moments.{Moment}
 use Rattle.h5w_step_laws.proofs.PartLemmas.{count_joined}
 use Rattle.h5w_array_laws.specs.Among.{AreAmong}
@@ -179,11 +180,12 @@ module _ (m : Moment) (base b t : Space) (u v w : Store) (ms : List Move) (rows 
       }
 
   pub array_says : (img : List ℕ) → BehindStands w (copied img f) → EachSays m.dataset m.fixed (blocks_in_place w) f.fixed (ended img f) f.in_place
-      → (f.in_place ≡ [] → SaysInPlace (copied img f) (committed m.dataset f.rows f.named) (blocks_in_place w) f.fixed) → SaysFirst img m f
-  array_says img stands each_says said = record {
+      → (f.in_place ≡ [] → SaysInPlace (copied img f) (committed m.dataset f.rows f.named) (blocks_in_place w) f.fixed) → IfSome f.named (λ a. (m.dataset.layout.address ≡ undefined) × (a < 2 ^ 64)) → SaysFirst img m f
+  array_says img stands each_says said named = record {
     blocks = blocks_in_place w;
     visited = λ ends. visited w (copied img f) plan.array plan.clean stands t.end sizes ends;
     answers = λ key n. address_found w (copied img f) plan.array plan.clean stands key (n shows.kind);
     each_says = each_says;
     said = said;
+    named = named;
   }

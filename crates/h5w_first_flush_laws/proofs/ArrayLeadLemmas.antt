@@ -1,12 +1,12 @@
 -- What the first flush of an array leads to, where its layout named none as where it named its header.
-use Rattle.std.proofs.Common.{◌≡◌, ℕ, ◌++◌, List, [], ◌∷◌, length, Option, refl, sym, ◌∙◌, subst}
+use Rattle.std.proofs.Common.{◌≡◌, ℕ, ◌++◌, List, [], length, Option, refl, sym, ◌∙◌, subst}
 use Rattle.std.specs.Prelude.{unwrap_or, ℤ}
 use Rattle.h5w_model.specs.Images.{AllMiss, image}
 use Rattle.h5w_model.specs.Findings.{Used, chunk_bytes}
 use Rattle.h5w_model.specs.Logs.{Log, appended}
 use Rattle.h5w_model.specs.declared.cell.IndexKind.TheVariants.{Array}
 use Rattle.h5w_model.specs.declared.piece.Write.{Write}
-use Rattle.h5w_visit_laws.specs.Ranges.{Among, block_at}
+use Rattle.h5w_step_laws.specs.Ranges.{Among, block_at}
 use Rattle.h5w_space.specs.Space.{Space}
 use Rattle.h5w_cache.specs.Stores.{Store, place_of}
 use Rattle.h5w_cache.specs.Plans.{bytes_in}

@@ -11,11 +11,11 @@ use Rattle.h5w_model.specs.Findings.{Used, Finding, chunk_bytes}
 use Rattle.h5w_model.specs.declared.cell.IndexKind.TheVariants.{Array, Tree}
 use Rattle.h5w_model.specs.declared.piece.Write.{Write}
 use Rattle.h5w_model.specs.declared.refusal.ReadError.{ReadError}
-use Rattle.h5w_visit_laws.specs.Ranges.{Among, AllEndBy, blocks_of}
-use Rattle.h5w_visit_laws.specs.Indexes.{behind_visit}
-use Rattle.h5w_visit_laws.proofs.RangeLemmas.{among_left, among_right, among_split}
+use Rattle.h5w_step_laws.specs.Ranges.{Among, AllEndBy, blocks_of}
+use Rattle.h5w_step_laws.specs.Indexes.{behind_visit}
+use Rattle.h5w_step_laws.proofs.RangeLemmas.{among_left, among_right, among_split}
 use Rattle.h5w_space.specs.Space.{Space}
-use Rattle.h5w_header_laws.specs.Files.{commit_at}
+use Rattle.h5w_step_laws.specs.Files.{commit_at}
 use Rattle.h5w_step_laws.specs.Moments.{Moment}
 use Rattle.h5w_step_laws.specs.Counts.{count_at}
 use Rattle.h5w_step_laws.proofs.PartLemmas.{count_joined}
@@ -140,7 +140,7 @@ first_is_flush img name m base t f tops nodes places k rising takes says = recor
       small = rising.small;
       few = rising.few;
       count = rising.count;
-      named = rising.named;
+      named = says.named;
       written = part.flushed;
       index = record {
         blocks = says.blocks;

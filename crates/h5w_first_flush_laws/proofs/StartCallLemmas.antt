@@ -1,18 +1,18 @@
 -- A first flush by what its calls give.
-use Rattle.std.proofs.Common.{◌≡◌, ℕ, List, [], ◌∷◌, ◌++◌, sym, ◌∙◌, ap, subst, inl, inr, arith}
+use Rattle.std.proofs.Common.{ℕ, List, [], ◌∷◌, ◌++◌, sym, ◌∙◌, ap, subst, inl, inr, arith}
 use Rattle.std.specs.Prelude.{Some, ℤ}
 use Rattle.h5w_model.specs.Arrays.{eahd_len, eaib_len}
 use Rattle.h5w_model.specs.Findings.{Used}
 use Rattle.h5w_model.specs.declared.piece.Write.{Write}
-use Rattle.h5w_visit_laws.specs.Ranges.{AllAmong, block_at}
+use Rattle.h5w_step_laws.specs.Ranges.{AllAmong, block_at}
 use Rattle.h5w_space.specs.Space.{Space}
 use Rattle.h5w_cache.specs.Stores.{Store}
 use Rattle.h5w_cache.specs.StoreLaws.{Standing}
 use Rattle.h5w_cache.specs.declared.moves.Move.{Move}
 use Rattle.h5w_chunks.specs.declared.grid.ChunkPlace.{ChunkPlace}
-use Rattle.h5w_header_laws.specs.Files.{commit_at}
+use Rattle.h5w_step_laws.specs.Files.{commit_at}
 use Rattle.h5w_step_laws.specs.Moments.{Moment}
-use Rattle.h5w_visit_laws.proofs.RangeLemmas.{among_left}
+use Rattle.h5w_step_laws.proofs.RangeLemmas.{among_left}
 use Rattle.h5w_array_laws.specs.Parts.{index_block}
 use Rattle.h5w_array_laws.specs.ArrayStores.{place_at_part, header_place, fixed_of}
 use Rattle.h5w_array_laws.specs.ArrayImages.{StartsArray}
@@ -79,14 +79,9 @@ module _ (img name : List ℕ) (m : Moment) (base b t : Space) (at place : ℕ) 
     blocks = has.writes;
     blank = made_blank;
     start = record {
-      rises = c.rises;
-      small = c.small;
-      few = c.few;
-      count = c.count;
+      rising = c.rising has.copies;
       taken = taken;
-      placed = c.placed has.copies;
       part = has.part;
-      ended = c.ended;
     };
     pieces =
         start_pieces img m b t u v w ms rows more writes chunks has.copies fixed supers t.end has.part

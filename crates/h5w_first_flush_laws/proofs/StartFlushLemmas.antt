@@ -5,7 +5,7 @@ use Rattle.h5w_model.specs.Images.{image}
 use Rattle.h5w_model.specs.Arrays.{eahd_len, eaib_len}
 use Rattle.h5w_model.specs.Findings.{Used}
 use Rattle.h5w_model.specs.declared.piece.Write.{Write}
-use Rattle.h5w_visit_laws.specs.Ranges.{AllAmong, block_at}
+use Rattle.h5w_step_laws.specs.Ranges.{AllAmong, block_at}
 use Rattle.h5w_space.specs.Space.{Space}
 use Rattle.h5w_cache.specs.Stores.{Store, times}
 use Rattle.h5w_cache.specs.declared.moves.Move.{Move}
@@ -89,12 +89,11 @@ module _ (img name : List ℕ) (m : Moment) (base b t : Space) (u v w : Store) (
   says =
       let said : SaysArray w (committed m.dataset rows (Some (header_place w))) (copied img f) = standing_says w (copied img f) (committed m.dataset rows (Some (header_place w))) planned.array planned.clean stands r.unnamed.kind refl in
       array_says m base b t u v w ms rows more writes places copies (first_blocks w) fixed supers [] (Some (header_place w)) (fixed_of w) r.blank x.part shows img (λ n placed low. stands.there n placed (ap (times n) planned.clean)) tt
-      (λ none. record { says = said.says; looks = sym said.looks })
+      (λ none. record { says = said.says; looks = sym said.looks }) (r.unnamed.address, planned.array.below 846)
 
   pub start_first : IsFirstFlush img m r.knows.held base t (parts_for m w rows more writes places copies supers t.end)
   start_first =
-      first_is_flush img name m base t f (fixed_of w) (fresh ms) places r.knows
-      (record { rises = x.rises; small = x.small; few = x.few; count = x.count; placed = x.placed; ended = x.ended; named = (r.unnamed.address, planned.array.below 846) })
+      first_is_flush img name m base t f (fixed_of w) (fresh ms) places r.knows x.rising
       (array_takes m base b t u v w ms rows more writes places copies (first_blocks w) fixed supers [] (Some (header_place w)) (fixed_of w) r.blank x.part shows taken) says
 
 pub start_is_flush : StartIsFlush

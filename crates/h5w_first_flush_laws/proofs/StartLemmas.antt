@@ -5,7 +5,7 @@ use Rattle.h5w_model.specs.Arrays.{eahd_len, eaib_len}
 use Rattle.h5w_model.specs.Findings.{Used}
 use Rattle.h5w_model.specs.declared.cell.Key.{Key}
 use Rattle.h5w_model.specs.declared.cell.IndexKind.TheVariants.{Array}
-use Rattle.h5w_visit_laws.specs.Ranges.{Among, Disjoint, block_at}
+use Rattle.h5w_step_laws.specs.Ranges.{Among, Disjoint, block_at}
 use Rattle.h5w_space.specs.Space.{Commits, Space, IsLive, Apart, extent}
 use Rattle.h5w_space.proofs.Sound.{Apart-sym}
 use Rattle.h5w_cache.specs.Stores.{Store, place_of}

@@ -2,8 +2,8 @@
 use Rattle.std.proofs.Common.{◌≡◌, ◌⊎◌, ℕ, ◌+◌, ◌<◌, ◌≤◌, List, [], ◌∷◌, ◌++◌, refl, subst, inl, inr, arith}
 use Rattle.std.proofs.lemmas.Bool.{cases_lt}
 use Rattle.h5w_model.specs.Findings.{Used}
-use Rattle.h5w_visit_laws.specs.Ranges.{Among}
-use Rattle.h5w_visit_laws.proofs.RangeLemmas.{among_right}
+use Rattle.h5w_step_laws.specs.Ranges.{Among}
+use Rattle.h5w_step_laws.proofs.RangeLemmas.{among_right}
 use Rattle.h5w_space.specs.Space.{Space}
 use Rattle.h5w_step_laws.proofs.PartLemmas.{disjoint_part, disjoint_right}
 use Rattle.h5w_flush_laws.specs.Spaces.{Taken}

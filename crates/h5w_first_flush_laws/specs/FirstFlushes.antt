@@ -9,11 +9,11 @@ use Rattle.h5w_model.specs.Logs.{Log, appended}
 use Rattle.h5w_model.specs.declared.cell.Key.{Key}
 use Rattle.h5w_model.specs.declared.cell.IndexKind.{IndexKind}
 use Rattle.h5w_model.specs.declared.piece.Write.{Write}
-use Rattle.h5w_visit_laws.specs.Ranges.{Among, AllAmong, AllEndBy}
-use Rattle.h5w_visit_laws.specs.Indexes.{behind_visit}
-use Rattle.h5w_visit_laws.specs.Needed.{AreFew}
+use Rattle.h5w_step_laws.specs.Ranges.{Among, AllAmong, AllEndBy}
+use Rattle.h5w_step_laws.specs.Indexes.{behind_visit}
+use Rattle.h5w_step_laws.specs.Needed.{AreFew}
 use Rattle.h5w_chunks.specs.declared.grid.ChunkPlace.{ChunkPlace}
-use Rattle.h5w_header_laws.specs.Files.{LayoutInChunk0, commit_at, with_rows}
+use Rattle.h5w_step_laws.specs.Files.{LayoutInChunk0, commit_at, with_rows}
 use Rattle.h5w_space.specs.Space.{Space, Commits}
 use Rattle.h5w_step_laws.specs.Moments.{Moment, Represents}
 use Rattle.h5w_step_laws.specs.Logs.{image_now}
@@ -49,7 +49,7 @@ pub record IsNowhere (img : List ℕ) (m : Moment) : Type 0 where
 
 -- ---- What a first flush shows
 
--- of its new rows: rows that were there before and had no chunk have the fill, which a new chunk has in them
+-- Of its new rows. Rows that were there before and had no chunk have the fill, which a new chunk has in them.
 pub record RisesTo (img : List ℕ) (m : Moment) (f : Parts) (places : List ChunkPlace) : Type 0 where
   pub rises : m.dataset.shape.rows < f.rows
   pub small : f.rows < 2 ^ 64
@@ -57,7 +57,6 @@ pub record RisesTo (img : List ℕ) (m : Moment) (f : Parts) (places : List Chun
   pub count : length (m.values ++ f.more) ≡ f.rows * m.dataset.shape.cols
   pub placed : ArePlaced img m no_chunk f places
   pub ended : AreEnded m.super f.end f.supers
-  pub named : IfSome f.named (λ a. (m.dataset.layout.address ≡ undefined) × (a < 2 ^ 64))
 
 -- Of its places: those of the blocks in place that come, `tops`, are taken with the chunks' in whatever order, and those of the other new blocks,
 -- `nodes`, by the index's plan. With these the index's ranges are those that the file has.
@@ -84,6 +83,7 @@ pub record SaysFirst (img : List ℕ) (m : Moment) (f : Parts) : Type 0 where
   pub answers : AnswersBy (copied img f) m.dataset blocks f.address
   pub each_says : EachSays m.dataset m.fixed blocks f.fixed (ended img f) f.in_place
   pub said : f.in_place ≡ [] → SaysInPlace (copied img f) (committed m.dataset f.rows f.named) blocks f.fixed
+  pub named : IfSome f.named (λ a. (m.dataset.layout.address ≡ undefined) × (a < 2 ^ 64))
 
 -- ---- Laws
 

@@ -1,6 +1,6 @@
 -- A first flush by what its calls give: two places are taken, an array is made there, the chunks get their places and the array names them,
 -- and its changed blocks are planned.
-use Rattle.std.specs.Prelude.{◌≡◌, ℕ, ◌+◌, ◌*◌, ◌^◌, ◌<◌, true, List, [], ◌∷◌, ◌++◌, length, map, Option, Some, ℤ}
+use Rattle.std.specs.Prelude.{◌≡◌, ℕ, ◌+◌, ◌^◌, ◌<◌, true, List, [], ◌∷◌, ◌++◌, length, map, Option, Some, ℤ}
 use Rattle.h5w_model.specs.Images.{image}
 use Rattle.h5w_model.specs.Headers.{with_rows_bytes}
 use Rattle.h5w_model.specs.Tables.{needed_keys}
@@ -8,10 +8,9 @@ use Rattle.h5w_model.specs.Logs.{Log, plans, appended, and_now}
 use Rattle.h5w_model.specs.Arrays.{eahd_len, eaib_len}
 use Rattle.h5w_model.specs.Findings.{Used, chunk_bytes}
 use Rattle.h5w_model.specs.declared.piece.Write.{Write}
-use Rattle.h5w_visit_laws.specs.Ranges.{block_at}
-use Rattle.h5w_visit_laws.specs.Needed.{AreFew}
+use Rattle.h5w_step_laws.specs.Ranges.{block_at}
 use Rattle.h5w_chunks.specs.declared.grid.ChunkPlace.{ChunkPlace}
-use Rattle.h5w_header_laws.specs.Files.{chunk_0, commit_at, with_rows}
+use Rattle.h5w_step_laws.specs.Files.{chunk_0, commit_at}
 use Rattle.h5w_space.specs.Space.{Space, extent}
 use Rattle.h5w_cache.specs.Plans.{Took}
 use Rattle.h5w_cache.specs.Stores.{Store, place_of, is_changed}
@@ -25,11 +24,10 @@ use Rattle.h5w_array_laws.specs.Parts.{index_block, number_of}
 use Rattle.h5w_array_laws.specs.ArrayStores.{IsArray, IsCreated, header_place, map_of, fixed_of, behind_of}
 use Rattle.h5w_array_laws.specs.ArrayPlans.{IsArrayPlan}
 use Rattle.h5w_flush_laws.specs.Spaces.{Taken}
-use Rattle.h5w_flush_laws.specs.Parts.{AreEnded, block_writes, committed, pieces_of}
-use Rattle.h5w_flush_laws.specs.Rows.{ArePlaced}
+use Rattle.h5w_flush_laws.specs.Parts.{block_writes, committed, pieces_of}
 use Rattle.h5w_flush_laws.specs.Chunks.{chunks_for}
 use Rattle.h5w_array_flush_laws.specs.ArrayBegins.{Begins}
-use Rattle.h5w_first_flush_laws.specs.FirstFlushes.{no_chunk}
+use Rattle.h5w_first_flush_laws.specs.FirstFlushes.{RisesTo, no_chunk}
 use Rattle.h5w_first_flush_laws.specs.Starting.{IsBlank, StartKnows}
 use Rattle.h5w_first_flush_laws.specs.StartFlushes.{IsStart, parts_for}
 
@@ -50,17 +48,12 @@ pub record NamesChunks (bytes : ℕ) (u : Store) (chunks : List Used) (v : Store
 -- the calls of such a flush
 pub record AreStartCalls (img : List ℕ) (m : Moment) (base b : Space) (at place : ℕ) (u v : Store) (ms : List Move) (w : Store) (t : Space) (rows : ℕ) (more : List ℤ) (writes : List Write) (places : List ChunkPlace)
     (cs fixed supers : List Write) : Type 0 where
-  pub rises : m.dataset.shape.rows < rows
-  pub small : rows < 2 ^ 64
-  pub few : AreFew (with_rows rows m.dataset)
-  pub count : length (m.values ++ more) ≡ rows * m.dataset.shape.cols
+  pub rising : (copies : List (ℕ × List ℕ)) → RisesTo img m (parts_for m w rows more writes places copies supers t.end) places
   -- the places of the array's header and index block, and of the new chunks, in whatever order they were taken
   pub taken : Taken base (block_at at eahd_len ∷ block_at place eaib_len ∷ chunks_for m no_chunk places) b
   pub made : IsMade at place u
   pub names : NamesChunks (chunk_bytes m.dataset) u (chunks_for m no_chunk places) v
-  pub placed : (copies : List (ℕ × List ℕ)) → ArePlaced img m no_chunk (parts_for m w rows more writes places copies supers t.end) places
   pub plan : IsArrayPlan v b ms cs fixed w t
-  pub ended : AreEnded m.super t.end supers
 
 -- ---- Laws
 

@@ -1,5 +1,5 @@
 -- The first flush of a file whose array is not there yet: the array's blocks are all new, and the header names it.
-use Rattle.std.specs.Prelude.{◌≡◌, ◌≢◌, ℕ, ◌*◌, ◌^◌, ◌<◌, true, List, [], ◌∷◌, ◌++◌, length, Option, Some, ℤ}
+use Rattle.std.specs.Prelude.{◌≡◌, ◌≢◌, ℕ, ◌<◌, true, List, [], ◌∷◌, ◌++◌, Option, Some, ℤ}
 use Rattle.std.specs.List.{All}
 use Rattle.h5w_model.specs.Numbers.{undefined}
 use Rattle.h5w_model.specs.Images.{image}
@@ -7,9 +7,8 @@ use Rattle.h5w_model.specs.Headers.{with_rows_bytes}
 use Rattle.h5w_model.specs.Findings.{Used, chunk_bytes}
 use Rattle.h5w_model.specs.Logs.{Log, appended}
 use Rattle.h5w_model.specs.declared.piece.Write.{Write}
-use Rattle.h5w_visit_laws.specs.Needed.{AreFew}
 use Rattle.h5w_chunks.specs.declared.grid.ChunkPlace.{ChunkPlace}
-use Rattle.h5w_header_laws.specs.Files.{chunk_0, commit_at, with_rows}
+use Rattle.h5w_step_laws.specs.Files.{chunk_0, commit_at}
 use Rattle.h5w_space.specs.Space.{Space, Commits}
 use Rattle.h5w_cache.specs.Stores.{Store, place_of, is_changed}
 use Rattle.h5w_cache.specs.StoreLaws.{Standing}
@@ -24,13 +23,12 @@ use Rattle.h5w_array_laws.specs.ArrayStores.{IsArray, place_at_part, bytes_at_pa
 use Rattle.h5w_array_laws.specs.ArrayImages.{IsPlanned}
 use Rattle.h5w_array_laws.specs.ArrayPlans.{fresh, IsArrayPlan}
 use Rattle.h5w_flush_laws.specs.Spaces.{Taken}
-use Rattle.h5w_flush_laws.specs.Parts.{Parts, AreEnded, IsFlush, flushed_to, pieces_of, block_ranges, block_writes}
-use Rattle.h5w_flush_laws.specs.Rows.{ArePlaced}
+use Rattle.h5w_flush_laws.specs.Parts.{Parts, IsFlush, flushed_to, pieces_of, block_ranges, block_writes}
 use Rattle.h5w_flush_laws.specs.Flushes.{Rests, shown_also, flush_planned}
 use Rattle.h5w_flush_laws.specs.Chunks.{chunks_for}
 use Rattle.h5w_array_flush_laws.specs.ArrayFlushes.{ArrayRests}
 use Rattle.h5w_array_flush_laws.specs.ArrayBegins.{Begins}
-use Rattle.h5w_first_flush_laws.specs.FirstFlushes.{no_chunk}
+use Rattle.h5w_first_flush_laws.specs.FirstFlushes.{RisesTo, no_chunk}
 use Rattle.h5w_first_flush_laws.specs.Starting.{StartKnows}
 
 -- the array's index block and its header, as blocks at new places
@@ -73,19 +71,13 @@ pub record IsStartingPart (m : Moment) (u v : Store) (s : Space) (ms : List Move
 abbrev pub parts_for : Moment → Store → ℕ → List ℤ → List Write → List ChunkPlace → List (ℕ × List ℕ) → List Write → ℕ → Parts
 parts_for m w rows more writes places copies supers last = starting_parts (chunk_bytes m.dataset) w rows more writes (chunks_for m no_chunk places) copies supers last
 
--- What a session shows of such a flush, over the places as they were before any were taken for it. Rows that were there before and had no
--- chunk have the fill, which a new chunk has in them.
+-- What a session shows of such a flush, over the places as they were before any were taken for it.
 pub record IsStart (img : List ℕ) (m : Moment) (base b : Space) (u v : Store) (ms : List Move) (w : Store) (t : Space) (rows : ℕ) (more : List ℤ) (writes : List Write) (places : List ChunkPlace) (copies : List (ℕ × List ℕ))
     (fixed supers : List Write) : Type 0 where
-  pub rises : m.dataset.shape.rows < rows
-  pub small : rows < 2 ^ 64
-  pub few : AreFew (with_rows rows m.dataset)
-  pub count : length (m.values ++ more) ≡ rows * m.dataset.shape.cols
+  pub rising : RisesTo img m (parts_for m w rows more writes places copies supers t.end) places
   -- the places of the array's two blocks and of the new chunks, in whatever order they were taken
   pub taken : Taken base (fixed_of u ++ chunks_for m no_chunk places) b
-  pub placed : ArePlaced img m no_chunk (parts_for m w rows more writes places copies supers t.end) places
   pub part : IsStartingPart m u v b ms w t (chunks_for m no_chunk places) copies fixed
-  pub ended : AreEnded m.super t.end supers
 
 -- ---- Laws
 

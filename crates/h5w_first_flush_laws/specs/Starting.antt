@@ -7,11 +7,11 @@ use Rattle.h5w_model.specs.Findings.{Used}
 use Rattle.h5w_model.specs.declared.cell.Key.{Key}
 use Rattle.h5w_model.specs.declared.cell.IndexKind.TheVariants.{Array}
 use Rattle.h5w_model.specs.declared.piece.Write.{Write}
-use Rattle.h5w_visit_laws.specs.Ranges.{block_at}
+use Rattle.h5w_step_laws.specs.Ranges.{block_at}
 use Rattle.h5w_space.specs.Space.{Space, Commits}
 use Rattle.h5w_cache.specs.Stores.{Store, place_of}
 use Rattle.h5w_cache.specs.StoreLaws.{Standing}
-use Rattle.h5w_header_laws.specs.Files.{LayoutInChunk0}
+use Rattle.h5w_step_laws.specs.Files.{LayoutInChunk0}
 use Rattle.h5w_step_laws.specs.Moments.{Moment, Represents}
 use Rattle.h5w_step_laws.specs.Steps.{Ends}
 use Rattle.h5w_array_laws.specs.Among.{AreAmong}

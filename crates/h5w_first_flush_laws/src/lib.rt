@@ -1,7 +1,8 @@
-//! The first flush into a file whose array is not there yet: its layout names none, and all its chunks are absent (HDF5 File Format
-//! Specification 3.0, "Data Layout Message", "The Extensible Array Index"). Other makers leave such files. The array is made at new places,
-//! which no reader reaches until the header's piece names it, with the rows. Each law is the clause of a function without parameters; its
-//! statement is a definition in specs/. Nothing here runs.
+//! The first flush of an index: until its pieces are shown no chunk has an address (HDF5 File Format Specification 3.0, "Data Layout
+//! Message"). Other makers leave such files, with rows that have no chunk. The new blocks come at new places, which no reader reaches until
+//! a piece that is written in place names them, with the rows. What holds of an index of either kind is said once, by the flush's rows, its
+//! places and what its new blocks say. Beside it stands a file whose layout names no extensible array ("The Extensible Array Index"): its first
+//! flush makes one. Each law is the clause of a function without parameters; its statement is a definition in specs/. Nothing here runs.
 #![tactic(auto)]
 
 mod calls;

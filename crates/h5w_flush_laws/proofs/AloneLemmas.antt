@@ -7,10 +7,10 @@ use Rattle.h5w_model.specs.Findings.{chunk_bytes}
 use Rattle.h5w_model.specs.declared.cell.Key.{Key}
 use Rattle.h5w_model.specs.declared.piece.Write.{Write}
 use Rattle.h5w_model.proofs.ImageLemmas.{apply-grows}
-use Rattle.h5w_visit_laws.specs.Ranges.{AllEndBy}
-use Rattle.h5w_visit_laws.specs.Indexes.{behind_visit}
-use Rattle.h5w_visit_laws.proofs.RangeLemmas.{among_left, among_right, ends_later}
-use Rattle.h5w_visit_laws.proofs.IndexLaws.{index_by_end}
+use Rattle.h5w_step_laws.specs.Ranges.{AllEndBy}
+use Rattle.h5w_step_laws.specs.Indexes.{behind_visit}
+use Rattle.h5w_step_laws.proofs.RangeLemmas.{among_left, among_right, ends_later}
+use Rattle.h5w_step_laws.proofs.IndexLaws.{index_by_end}
 use Rattle.h5w_space.specs.Space.{Space}
 use Rattle.h5w_step_laws.specs.Moments.{Moment, all_used}
 use Rattle.h5w_step_laws.proofs.MomentLemmas.{in_index}

@@ -16,8 +16,8 @@ use Rattle.h5w_model.specs.declared.piece.Write.{Write}
 use Rattle.h5w_chunks.specs.Grids.{cell_key, grid_number}
 use Rattle.h5w_chunks.proofs.Geometry.{lt_up, quotient_lt, row_is}
 use Rattle.h5w_chunks.proofs.KeyLemmas.{next_band}
-use Rattle.h5w_visit_laws.specs.Ranges.{Among, chunk_at}
-use Rattle.h5w_visit_laws.specs.Headers.{IsSized}
+use Rattle.h5w_step_laws.specs.Ranges.{Among, chunk_at}
+use Rattle.h5w_step_laws.specs.Headers.{IsSized}
 use Rattle.h5w_step_laws.specs.Moments.{Moment, MissesCells, row_of, column_of, chunk_of}
 use Rattle.h5w_step_laws.proofs.MomentLemmas.{InChunkOf, cell_within, chunk_missed}
 use Rattle.h5w_flush_laws.specs.Parts.{committed}

@@ -13,12 +13,12 @@ use Rattle.h5w_chunks.specs.Shares.{touched, touched_key}
 use Rattle.h5w_chunks.specs.Rows.{ChunksApart}
 use Rattle.h5w_chunks.specs.declared.grid.ChunkPlace.{ChunkPlace}
 use Rattle.h5w_chunks.proofs.KeyLemmas.{touched_lines, touched_number, touched_once}
-use Rattle.h5w_visit_laws.specs.Ranges.{Among, AreApart, Disjoint, chunk_at}
-use Rattle.h5w_visit_laws.specs.Indexes.{IsNamed}
-use Rattle.h5w_visit_laws.specs.Needed.{AreFew}
-use Rattle.h5w_visit_laws.proofs.NeededLaws.{one_address}
+use Rattle.h5w_step_laws.specs.Ranges.{Among, AreApart, Disjoint, chunk_at}
+use Rattle.h5w_step_laws.specs.Indexes.{IsNamed}
+use Rattle.h5w_step_laws.specs.Needed.{AreFew}
+use Rattle.h5w_step_laws.proofs.NeededLaws.{one_address}
 use Rattle.h5w_space.specs.Space.{Space}
-use Rattle.h5w_header_laws.specs.Files.{with_rows}
+use Rattle.h5w_step_laws.specs.Files.{with_rows}
 use Rattle.h5w_step_laws.specs.Moments.{Moment, all_used}
 use Rattle.h5w_step_laws.proofs.PartLemmas.{apart_sym, disjoint_some, disjoint_two}
 use Rattle.h5w_step_laws.proofs.MomentLemmas.{in_behind}

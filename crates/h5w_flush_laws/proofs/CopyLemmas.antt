@@ -4,7 +4,7 @@ use Rattle.std.proofs.lemmas.List.Elements.{All-head, All-tail}
 use Rattle.std.specs.List.{All}
 use Rattle.h5w_model.specs.Images.{pieces}
 use Rattle.h5w_model.specs.Findings.{Used}
-use Rattle.h5w_visit_laws.specs.Ranges.{block_at}
+use Rattle.h5w_step_laws.specs.Ranges.{block_at}
 use Rattle.h5w_cache.specs.Blocks.{BlockView}
 use Rattle.h5w_cache.specs.Plans.{bytes_in, writes_of}
 use Rattle.h5w_cache.specs.declared.moves.Move.{Move}

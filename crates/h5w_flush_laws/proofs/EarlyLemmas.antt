@@ -6,11 +6,11 @@ use Rattle.h5w_model.specs.Tables.{format_limits}
 use Rattle.h5w_model.specs.Findings.{Used}
 use Rattle.h5w_model.specs.declared.piece.Write.{Write}
 use Rattle.h5w_model.proofs.ImageLemmas.{image-append, image-pieces, image-grows, length-apply, AllMiss-append, pieces-miss}
-use Rattle.h5w_visit_laws.specs.Ranges.{Among, MissesBlocks, block_at}
-use Rattle.h5w_visit_laws.proofs.HeaderLaws.{header_missed}
+use Rattle.h5w_step_laws.specs.Ranges.{Among, MissesBlocks, block_at}
+use Rattle.h5w_step_laws.proofs.HeaderLaws.{header_missed}
 use Rattle.h5w_space.specs.Space.{Space}
-use Rattle.h5w_header_laws.specs.Files.{chunk_0, LayoutInChunk0}
-use Rattle.h5w_header_laws.proofs.FileLaws.{layout_missed}
+use Rattle.h5w_step_laws.specs.Files.{chunk_0, LayoutInChunk0}
+use Rattle.h5w_step_laws.proofs.FileLaws.{layout_missed}
 use Rattle.h5w_step_laws.specs.Moments.{Moment, all_used, Represents, HasCells, chunk_of, cell_place}
 use Rattle.h5w_step_laws.specs.Steps.{unseen}
 use Rattle.h5w_step_laws.specs.Plans.{Plan, UnseenRange}

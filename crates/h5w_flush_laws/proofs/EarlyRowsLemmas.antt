@@ -8,12 +8,12 @@ use Rattle.h5w_model.specs.Datasets.{Described}
 use Rattle.h5w_model.specs.Tables.{chunks_across, keys_across}
 use Rattle.h5w_model.specs.declared.cell.Key.{Key}
 use Rattle.h5w_model.specs.declared.piece.Write.{Write}
-use Rattle.h5w_visit_laws.specs.Needed.{AreFew}
+use Rattle.h5w_step_laws.specs.Needed.{AreFew}
 use Rattle.h5w_chunks.specs.Shares.{first_line, touched, touched_key}
 use Rattle.h5w_chunks.specs.declared.grid.ChunkPlace.{ChunkPlace}
 use Rattle.h5w_chunks.proofs.KeyLemmas.{asked_is_touched, bands_between, line_chunks, number_of, touched_lines, touched_number, touched_once}
 use Rattle.h5w_space.specs.Space.{Space}
-use Rattle.h5w_header_laws.specs.Files.{with_rows}
+use Rattle.h5w_step_laws.specs.Files.{with_rows}
 use Rattle.h5w_step_laws.specs.Moments.{Moment}
 use Rattle.h5w_flush_laws.specs.Spaces.{Taken}
 use Rattle.h5w_flush_laws.specs.Knowledge.{IsAsked, Knows}

@@ -9,10 +9,10 @@ use Rattle.h5w_model.specs.Findings.{Used, the_superblock}
 use Rattle.h5w_model.specs.declared.cell.Key.{Key}
 use Rattle.h5w_model.specs.declared.piece.Write.{Write}
 use Rattle.h5w_model.proofs.ImageLemmas.{image-push, image-grows}
-use Rattle.h5w_visit_laws.specs.Ranges.{Among, AreApart}
-use Rattle.h5w_visit_laws.proofs.RangeLemmas.{among_left, among_right, among_split}
+use Rattle.h5w_step_laws.specs.Ranges.{Among, AreApart}
+use Rattle.h5w_step_laws.proofs.RangeLemmas.{among_left, among_right, among_split}
 use Rattle.h5w_space.specs.Space.{Space, IsLive}
-use Rattle.h5w_header_laws.specs.Files.{chunk_0, commit_at, LayoutInChunk0}
+use Rattle.h5w_step_laws.specs.Files.{chunk_0, commit_at, LayoutInChunk0}
 use Rattle.h5w_step_laws.specs.Moments.{Moment, all_used, Represents}
 use Rattle.h5w_step_laws.specs.Steps.{Step}
 use Rattle.h5w_step_laws.specs.Plans.{Flush}

@@ -13,13 +13,13 @@ use Rattle.h5w_model.specs.declared.root.Super.{Super}
 use Rattle.h5w_model.specs.declared.piece.Write.{Write}
 use Rattle.h5w_model.proofs.ImageLemmas.{image-grows, Apart-part}
 use Rattle.h5w_laws.proofs.ProgramLemmas.{same_eval, same_visits}
-use Rattle.h5w_visit_laws.specs.Ranges.{Among, AllAmong, AllEndBy, AreApart, Disjoint, MissesBlocks, blocks_of}
-use Rattle.h5w_visit_laws.specs.Indexes.{IsBehind, behind_visit}
-use Rattle.h5w_visit_laws.specs.Needed.{AreFew}
-use Rattle.h5w_visit_laws.specs.Headers.{IsSized}
-use Rattle.h5w_visit_laws.proofs.RangeLemmas.{among_left, among_right, among_split}
-use Rattle.h5w_visit_laws.proofs.IndexLaws.{visited_behind, place_same}
-use Rattle.h5w_visit_laws.proofs.NeededLaws.{table_laws}
+use Rattle.h5w_step_laws.specs.Ranges.{Among, AllAmong, AllEndBy, AreApart, Disjoint, MissesBlocks, blocks_of}
+use Rattle.h5w_step_laws.specs.Indexes.{IsBehind, behind_visit}
+use Rattle.h5w_step_laws.specs.Needed.{AreFew}
+use Rattle.h5w_step_laws.specs.Headers.{IsSized}
+use Rattle.h5w_step_laws.proofs.RangeLemmas.{among_left, among_right, among_split}
+use Rattle.h5w_step_laws.proofs.IndexLaws.{visited_behind, place_same}
+use Rattle.h5w_step_laws.proofs.NeededLaws.{table_laws}
 use Rattle.h5w_space.specs.Space.{Space}
 use Rattle.h5w_step_laws.specs.Moments.{Moment, all_used, Represents, HasCells, row_of, column_of}
 use Rattle.h5w_step_laws.specs.Steps.{Ends, ends}

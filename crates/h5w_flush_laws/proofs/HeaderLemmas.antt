@@ -12,15 +12,15 @@ use Rattle.h5w_model.specs.declared.cell.Key.{Key}
 use Rattle.h5w_model.specs.declared.refusal.ReadError.{ReadError}
 use Rattle.h5w_model.specs.declared.piece.Write.{Write}
 use Rattle.h5w_model.proofs.ImageLemmas.{image-append}
-use Rattle.h5w_visit_laws.specs.Ranges.{Among}
-use Rattle.h5w_visit_laws.specs.Indexes.{IsIndex, behind_visit}
-use Rattle.h5w_visit_laws.proofs.RangeLemmas.{among_left}
-use Rattle.h5w_visit_laws.proofs.IndexLaws.{index_as}
-use Rattle.h5w_visit_laws.proofs.NeededLaws.{by_blocks}
+use Rattle.h5w_step_laws.specs.Ranges.{Among}
+use Rattle.h5w_step_laws.specs.Indexes.{IsIndex, behind_visit}
+use Rattle.h5w_step_laws.proofs.RangeLemmas.{among_left}
+use Rattle.h5w_step_laws.proofs.IndexLaws.{index_as}
+use Rattle.h5w_step_laws.proofs.NeededLaws.{by_blocks}
 use Rattle.h5w_space.specs.Space.{Space}
-use Rattle.h5w_header_laws.specs.Files.{chunk_0, commit_at, LayoutInChunk0}
-use Rattle.h5w_header_laws.proofs.FileLaws.{growing_header, starting_header}
-use Rattle.h5w_header_laws.proofs.StepLaws.{growing_step, starting_step}
+use Rattle.h5w_step_laws.specs.Files.{chunk_0, commit_at, LayoutInChunk0}
+use Rattle.h5w_step_laws.proofs.FileLaws.{growing_header, starting_header}
+use Rattle.h5w_step_laws.proofs.StepLaws.{growing_step, starting_step}
 use Rattle.h5w_step_laws.specs.Moments.{Moment, Represents, HasCells}
 use Rattle.h5w_step_laws.specs.Steps.{LiesIn, Step}
 use Rattle.h5w_step_laws.proofs.MomentLemmas.{few}

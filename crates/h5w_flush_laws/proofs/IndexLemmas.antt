@@ -10,10 +10,10 @@ use Rattle.h5w_model.specs.Findings.{Used, chunk_bytes}
 use Rattle.h5w_model.specs.Prefixed.{StaysDefined}
 use Rattle.h5w_model.specs.declared.cell.Key.{Key}
 use Rattle.h5w_model.specs.declared.piece.Write.{Write}
-use Rattle.h5w_visit_laws.specs.Ranges.{AllWithin, Among, AllAmong, AllEndBy, AreApart, Disjoint, MissesBlocks}
-use Rattle.h5w_visit_laws.specs.Indexes.{IsBehind, IsAnswered, behind_visit}
-use Rattle.h5w_visit_laws.proofs.RangeLemmas.{among_left, among_right, among_split}
-use Rattle.h5w_visit_laws.proofs.IndexLaws.{behind_missed}
+use Rattle.h5w_step_laws.specs.Ranges.{AllWithin, Among, AllAmong, AllEndBy, AreApart, Disjoint, MissesBlocks}
+use Rattle.h5w_step_laws.specs.Indexes.{IsBehind, IsAnswered, behind_visit}
+use Rattle.h5w_step_laws.proofs.RangeLemmas.{among_left, among_right, among_split}
+use Rattle.h5w_step_laws.proofs.IndexLaws.{behind_missed}
 use Rattle.h5w_step_laws.specs.Moments.{Moment, all_used, Represents, HasCells}
 use Rattle.h5w_step_laws.specs.Steps.{LiesIn, OffAll, Clear, Step}
 use Rattle.h5w_step_laws.proofs.PartLemmas.{apart_sym}

@@ -13,9 +13,9 @@ use Rattle.h5w_model.specs.Prefixed.{StaysDefined}
 use Rattle.h5w_model.specs.declared.cell.Key.{Key}
 use Rattle.h5w_chunks.proofs.KeyLemmas.{index_side, key_at}
 use Rattle.h5w_laws.proofs.ResultLemmas.{and_then_from}
-use Rattle.h5w_visit_laws.specs.Indexes.{IsNamed}
-use Rattle.h5w_visit_laws.specs.Needed.{AreFew}
-use Rattle.h5w_visit_laws.proofs.NeededLaws.{needed_named, by_blocks, addresses_are, same_addresses}
+use Rattle.h5w_step_laws.specs.Indexes.{IsNamed}
+use Rattle.h5w_step_laws.specs.Needed.{AreFew}
+use Rattle.h5w_step_laws.proofs.NeededLaws.{needed_named, by_blocks, addresses_are, same_addresses}
 use Rattle.h5w_flush_laws.specs.Knowledge.{IsAsked, AnswersBy, IsMap}
 
 -- ---- By number

@@ -10,10 +10,10 @@ use Rattle.h5w_model.specs.declared.cell.Key.{Key}
 use Rattle.h5w_model.specs.declared.refusal.ReadError.{ReadError}
 use Rattle.h5w_model.specs.declared.piece.Write.{Write}
 use Rattle.h5w_model.proofs.ImageLemmas.{apply-grows, image-grows}
-use Rattle.h5w_visit_laws.specs.Ranges.{Among, MissesBlocks}
-use Rattle.h5w_visit_laws.specs.Indexes.{IsIndex}
-use Rattle.h5w_visit_laws.proofs.RangeLemmas.{among_left, among_right}
-use Rattle.h5w_visit_laws.proofs.IndexLaws.{index_missed}
+use Rattle.h5w_step_laws.specs.Ranges.{Among, MissesBlocks}
+use Rattle.h5w_step_laws.specs.Indexes.{IsIndex}
+use Rattle.h5w_step_laws.proofs.RangeLemmas.{among_left, among_right}
+use Rattle.h5w_step_laws.proofs.IndexLaws.{index_missed}
 use Rattle.h5w_space.specs.Space.{Apart, Space}
 use Rattle.h5w_space.specs.declared.Extent.{Extent}
 use Rattle.h5w_step_laws.specs.Moments.{Moment, all_used, Represents}

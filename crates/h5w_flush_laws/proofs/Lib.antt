@@ -1,21 +1,21 @@
 pub mod SpaceLemmas
 pub mod KeyLemmas
-pub mod PartLemmas
+mod PartLemmas
 pub mod EarlyLemmas
 pub mod IndexLemmas
-pub mod CellLemmas
+mod CellLemmas
 pub mod FlushLemmas
 pub mod HeaderLemmas
 pub mod FlushLaws
 pub mod KnownLaws
 pub mod SessionLaws
-pub mod ValueLemmas
+mod ValueLemmas
 pub mod NewChunkLemmas
 pub mod ChunkPlaceLemmas
 pub mod RowsLaws
-pub mod CopyLemmas
-pub mod AloneLemmas
-pub mod OnceArrays
-pub mod OnceTrees
-pub mod OnceLaws
+mod CopyLemmas
+mod AloneLemmas
+mod OnceArrays
+mod OnceTrees
+mod OnceLaws
 pub mod EarlyRowsLemmas

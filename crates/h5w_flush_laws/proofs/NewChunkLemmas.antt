@@ -16,10 +16,10 @@ use Rattle.h5w_chunks.specs.Rows.{AllWithin, IsChunkOf}
 use Rattle.h5w_chunks.specs.declared.grid.ChunkPlace.{ChunkPlace}
 use Rattle.h5w_chunks.proofs.Geometry.{quotient_lt}
 use Rattle.h5w_chunks.proofs.KeyLemmas.{array_line, some_across}
-use Rattle.h5w_visit_laws.specs.Ranges.{Among, AreApart, Disjoint, chunk_at}
-use Rattle.h5w_visit_laws.specs.Indexes.{IsNamed}
-use Rattle.h5w_visit_laws.specs.Needed.{AreFew}
-use Rattle.h5w_header_laws.specs.Files.{with_rows}
+use Rattle.h5w_step_laws.specs.Ranges.{Among, AreApart, Disjoint, chunk_at}
+use Rattle.h5w_step_laws.specs.Indexes.{IsNamed}
+use Rattle.h5w_step_laws.specs.Needed.{AreFew}
+use Rattle.h5w_step_laws.specs.Files.{with_rows}
 use Rattle.h5w_flush_laws.specs.Rows.{new_chunks, NewChunksMore, RowsAnywhere}
 
 -- ---- Numbers and keys

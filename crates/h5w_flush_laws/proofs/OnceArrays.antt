@@ -20,10 +20,10 @@ use Rattle.h5w_laws.proofs.ReachLemmas.{IsNear, near_place}
 use Rattle.h5w_model.proofs.ArrayGeometry.{slot_place-stands}
 use Rattle.h5w_model.proofs.SlotLemmas.{slot_of}
 use Rattle.h5w_laws.proofs.EndLemmas.{ranges_are, same_ranges}
-use Rattle.h5w_visit_laws.specs.Ranges.{Among, AreApart, Disjoint, block_at, chunk_at}
-use Rattle.h5w_visit_laws.proofs.RangeLemmas.{among_left, among_right}
-use Rattle.h5w_visit_laws.proofs.VisitTells.{both_parts, block_parts}
-use Rattle.h5w_visit_laws.proofs.ArrayVisits.{one_more, by_place}
+use Rattle.h5w_step_laws.specs.Ranges.{Among, AreApart, Disjoint, block_at, chunk_at}
+use Rattle.h5w_step_laws.proofs.RangeLemmas.{among_left, among_right}
+use Rattle.h5w_step_laws.proofs.VisitTells.{both_parts, block_parts}
+use Rattle.h5w_step_laws.proofs.ArrayVisits.{one_more, by_place}
 use Rattle.h5w_flush_laws.proofs.PartLemmas.{meets_itself}
 
 -- ---- A range that is there twice

@@ -16,9 +16,9 @@ use Rattle.h5w_model.specs.declared.refusal.ReadError.{ReadError}
 use Rattle.h5w_chunks.proofs.KeyLemmas.{array_keys}
 use Rattle.h5w_laws.proofs.ResultLemmas.{and_then_ok}
 use Rattle.h5w_laws.proofs.EndLemmas.{same_ranges}
-use Rattle.h5w_visit_laws.specs.Ranges.{Disjoint, chunk_at}
-use Rattle.h5w_visit_laws.specs.Indexes.{behind_visit}
-use Rattle.h5w_visit_laws.proofs.IndexVisits.{tree_read}
+use Rattle.h5w_step_laws.specs.Ranges.{Disjoint, chunk_at}
+use Rattle.h5w_step_laws.specs.Indexes.{behind_visit}
+use Rattle.h5w_step_laws.proofs.IndexVisits.{tree_read}
 use Rattle.h5w_step_laws.proofs.MomentLemmas.{parts_of}
 use Rattle.h5w_flush_laws.specs.Knowledge.{AnswersBy, FileOnce}
 use Rattle.h5w_flush_laws.proofs.KnownLaws.{answers_of}

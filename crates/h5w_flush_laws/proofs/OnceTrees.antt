@@ -13,10 +13,10 @@ use Rattle.h5w_model.specs.declared.refusal.BlockFault.{BlockFault}
 use Rattle.h5w_model.specs.declared.refusal.ReadError.{ReadError}
 use Rattle.h5w_model.specs.declared.refusal.ReadError.TheVariants.{Damaged}
 use Rattle.h5w_laws.proofs.ResultLemmas.{then_ok, and_then_ok, choice_ok}
-use Rattle.h5w_visit_laws.specs.Ranges.{Among, block_at, chunk_at}
-use Rattle.h5w_visit_laws.proofs.RangeLemmas.{among_left, among_right}
-use Rattle.h5w_visit_laws.proofs.ArrayVisits.{chunks_known}
-use Rattle.h5w_visit_laws.proofs.TreeVisits.{node_parts, finished, same_under, same_pair}
+use Rattle.h5w_step_laws.specs.Ranges.{Among, block_at, chunk_at}
+use Rattle.h5w_step_laws.proofs.RangeLemmas.{among_left, among_right}
+use Rattle.h5w_step_laws.proofs.ArrayVisits.{chunks_known}
+use Rattle.h5w_step_laws.proofs.TreeVisits.{node_parts, finished, same_under, same_pair}
 use Rattle.h5w_flush_laws.proofs.OnceArrays.{Twice, twice_both, twice_left, twice_right, answer, address_in, Sep, sep_nothing, sep_as, sep_right, Always, slot_in, chunks_apart}
 
 -- ---- A leaf

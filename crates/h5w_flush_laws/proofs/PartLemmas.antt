@@ -1,8 +1,8 @@
 -- The ranges of a file after a flush do not meet.
 use Rattle.std.proofs.Common.{◌<◌, ◌≡◌, ◌≢◌, ◌⊎◌, ℕ, ◌+◌, ◌≤◌, Bool, true, false, List, [], ◌∷◌, ◌++◌, sym, ◌∙◌, ap, inl, inr, arith}
 use Rattle.h5w_model.specs.Findings.{Used, the_superblock}
-use Rattle.h5w_visit_laws.specs.Ranges.{Among, AllAmong, AreApart, Disjoint}
-use Rattle.h5w_visit_laws.proofs.RangeLemmas.{among_left, among_right, among_split}
+use Rattle.h5w_step_laws.specs.Ranges.{Among, AllAmong, AreApart, Disjoint}
+use Rattle.h5w_step_laws.proofs.RangeLemmas.{among_left, among_right, among_split}
 use Rattle.h5w_step_laws.specs.Counts.{count_at}
 use Rattle.h5w_step_laws.specs.Moments.{Moment, all_used}
 use Rattle.h5w_step_laws.proofs.PartLemmas.{disjoint_two, disjoint_apart, count_joined}

@@ -22,12 +22,12 @@ use Rattle.h5w_chunks.specs.declared.grid.ChunkPlace.{ChunkPlace}
 use Rattle.h5w_chunks.proofs.EarlyLemmas.{within_miss}
 use Rattle.h5w_chunks.proofs.Geometry.{band_of_number, number_parts, quotient_of, row_is, div_grows}
 use Rattle.h5w_chunks.proofs.KeyLemmas.{asked_is_touched, cell_before, cell_lines, cell_touched, first_line_grows, number_of}
-use Rattle.h5w_visit_laws.specs.Ranges.{Among, AreApart, chunk_at}
-use Rattle.h5w_visit_laws.specs.Indexes.{IsNamed}
-use Rattle.h5w_visit_laws.specs.Headers.{IsSized}
-use Rattle.h5w_visit_laws.specs.Needed.{AreFew}
+use Rattle.h5w_step_laws.specs.Ranges.{Among, AreApart, chunk_at}
+use Rattle.h5w_step_laws.specs.Indexes.{IsNamed}
+use Rattle.h5w_step_laws.specs.Headers.{IsSized}
+use Rattle.h5w_step_laws.specs.Needed.{AreFew}
 use Rattle.h5w_space.specs.Space.{Space}
-use Rattle.h5w_header_laws.specs.Files.{with_rows}
+use Rattle.h5w_step_laws.specs.Files.{with_rows}
 use Rattle.h5w_step_laws.specs.Moments.{Moment, all_used, Represents, HasCells, row_of, column_of, chunk_of, cell_place}
 use Rattle.h5w_step_laws.proofs.MomentLemmas.{nested, cell_within, few, header_of, in_behind}
 use Rattle.h5w_step_laws.proofs.PlanLaws.{plan_leads}

@@ -7,9 +7,9 @@ use Rattle.h5w_model.specs.Logs.{Log, appends, plans, shows, appended, and_now}
 use Rattle.h5w_model.specs.Findings.{Used}
 use Rattle.h5w_model.specs.declared.cell.Key.{Key}
 use Rattle.h5w_model.specs.declared.piece.Write.{Write}
-use Rattle.h5w_visit_laws.specs.Needed.{AreFew}
+use Rattle.h5w_step_laws.specs.Needed.{AreFew}
 use Rattle.h5w_space.specs.Space.{Space, Commits}
-use Rattle.h5w_header_laws.specs.Files.{chunk_0, with_rows, LayoutInChunk0}
+use Rattle.h5w_step_laws.specs.Files.{chunk_0, with_rows, LayoutInChunk0}
 use Rattle.h5w_step_laws.specs.Moments.{Moment, Represents}
 use Rattle.h5w_step_laws.specs.Steps.{Ends}
 use Rattle.h5w_step_laws.specs.Logs.{image_now}

@@ -8,10 +8,10 @@ use Rattle.h5w_model.specs.Tables.{InPlace, in_place, address_behind, keys_acros
 use Rattle.h5w_model.specs.Findings.{Used}
 use Rattle.h5w_model.specs.declared.cell.Key.{Key}
 use Rattle.h5w_model.specs.declared.piece.Write.{Write}
-use Rattle.h5w_visit_laws.specs.Ranges.{Among, AllAmong, AllSome}
-use Rattle.h5w_visit_laws.specs.Indexes.{IsNamed}
+use Rattle.h5w_step_laws.specs.Ranges.{Among, AllAmong, AllSome}
+use Rattle.h5w_step_laws.specs.Indexes.{IsNamed}
 use Rattle.h5w_space.specs.Space.{Space}
-use Rattle.h5w_header_laws.specs.Files.{LayoutInChunk0}
+use Rattle.h5w_step_laws.specs.Files.{LayoutInChunk0}
 use Rattle.h5w_step_laws.specs.Moments.{Moment, all_used, moved_of, Represents}
 use Rattle.h5w_step_laws.specs.Steps.{OffAll, Clear}
 use Rattle.h5w_flush_laws.specs.Spaces.{AllLive}

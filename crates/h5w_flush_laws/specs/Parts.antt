@@ -11,11 +11,11 @@ use Rattle.h5w_model.specs.Prefixed.{StaysDefined}
 use Rattle.h5w_model.specs.declared.cell.Key.{Key}
 use Rattle.h5w_model.specs.declared.root.Super.{Super}
 use Rattle.h5w_model.specs.declared.piece.Write.{Write}
-use Rattle.h5w_visit_laws.specs.Ranges.{Among, AllAmong, block_at, blocks_of}
-use Rattle.h5w_visit_laws.specs.Indexes.{behind_visit}
-use Rattle.h5w_visit_laws.specs.Needed.{AreFew}
+use Rattle.h5w_step_laws.specs.Ranges.{Among, AllAmong, block_at, blocks_of}
+use Rattle.h5w_step_laws.specs.Indexes.{behind_visit}
+use Rattle.h5w_step_laws.specs.Needed.{AreFew}
 use Rattle.h5w_space.specs.Space.{Space}
-use Rattle.h5w_header_laws.specs.Files.{commit_at}
+use Rattle.h5w_step_laws.specs.Files.{commit_at}
 use Rattle.h5w_step_laws.specs.Moments.{Moment, HasCells}
 use Rattle.h5w_step_laws.specs.Steps.{LiesIn, Unseen}
 use Rattle.h5w_step_laws.specs.Counts.{count_at}

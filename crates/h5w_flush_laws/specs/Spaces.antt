@@ -2,7 +2,7 @@
 use Rattle.std.specs.Prelude.{◌≡◌, ℕ, ◌+◌, ◌<◌, ◌≤◌, ◌⊎◌, true, false, List, [], ◌∷◌, ◌++◌, map, Option}
 use Rattle.std.specs.List.{All}
 use Rattle.h5w_model.specs.Findings.{Used}
-use Rattle.h5w_visit_laws.specs.Ranges.{Among, Disjoint, block_at}
+use Rattle.h5w_step_laws.specs.Ranges.{Among, Disjoint, block_at}
 use Rattle.h5w_space.specs.Space.{Space, IsLive, Apart, Commits, extent}
 use Rattle.h5w_space.specs.declared.Extent.{Extent}
 use Rattle.h5w_cache.specs.Blocks.{BlockView}

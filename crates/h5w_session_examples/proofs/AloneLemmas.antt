@@ -14,9 +14,9 @@ use Rattle.h5w_model.specs.Numbers.{num, le, halvings, width_of, undefined}
 use Rattle.h5w_model.specs.Tables.{cell}
 use Rattle.h5w_model.specs.Findings.{Used, Valid}
 use Rattle.h5w_model.specs.declared.piece.Write.{Write}
-use Rattle.h5w_visit_laws.specs.Ranges.{Among, AllEndBy, block_at, chunk_at}
-use Rattle.h5w_visit_laws.specs.Indexes.{IsIndex}
-use Rattle.h5w_visit_laws.proofs.IndexLaws.{index_of_parts}
+use Rattle.h5w_step_laws.specs.Ranges.{Among, AllEndBy, block_at, chunk_at}
+use Rattle.h5w_step_laws.specs.Indexes.{IsIndex}
+use Rattle.h5w_step_laws.proofs.IndexLaws.{index_of_parts}
 use Rattle.h5w_space.specs.Space.{Space}
 use Rattle.h5w_cache.specs.Stores.{Store}
 use Rattle.h5w_cache.specs.declared.moves.Move.{Move}
@@ -163,10 +163,7 @@ module _ (u h v w : Store) (ms : List Move) (cs fixed supers : List Write) (t : 
 
   are : AreBlockCalls alone_opened alone_to_write (places_to 312) (places_to 618) 312 u v ms w t 4 seven seven_writes seven_place cs fixed supers
   are = record {
-    rises = lit≤ tt;
-    small = lit≤ tt;
-    few = refl;
-    count = refl;
+    rising = λ copies. record { rises = lit≤ tt; small = lit≤ tt; few = refl; count = refl; placed = all_placed copies; ended = ended };
     taken = taken;
     made = record { created = c.made; header_ends = lit≤ tt; block_ends = lit≤ tt };
     names = record {
@@ -176,9 +173,7 @@ module _ (u h v w : Store) (ms : List Move) (cs fixed supers : List Write) (t : 
       changed = c.named.marks 845 c.changed;
       behind = subst (λ (us : List Used). AreAmong (behind_of 8 v) (chunk_at 610 8 ∷ us)) (c.held.behind 8) (c.named.behind 8);
     };
-    placed = all_placed;
     plan = c.plan;
-    ended = ended;
   }
 
   block_it : BlockIt u v ms cs fixed supers w t

@@ -5,7 +5,7 @@ use Rattle.std.proofs.lemmas.Bool.{cond-false, ne_eqb}
 use Rattle.h5w_model.specs.Numbers.{undefined}
 use Rattle.h5w_model.specs.Findings.{Used}
 use Rattle.h5w_model.specs.declared.piece.Write.{Write}
-use Rattle.h5w_visit_laws.specs.Ranges.{Among, block_at, chunk_at}
+use Rattle.h5w_step_laws.specs.Ranges.{Among, block_at, chunk_at}
 use Rattle.h5w_space.specs.Space.{Space}
 use Rattle.h5w_cache.specs.Stores.{Store}
 use Rattle.h5w_cache.specs.declared.moves.Move.{Move}
@@ -78,10 +78,7 @@ module _ (u h v w : Store) (ms : List Move) (cs fixed supers : List Write) (t : 
 
   are : AreStartCalls opened_file open_to_write (places_to 240) (places_to 618) 546 248 u v ms w t 4 fourth_row.more fourth_row.writes new_place cs fixed supers
   are = record {
-    rises = lit≤ tt;
-    small = lit≤ tt;
-    few = refl;
-    count = refl;
+    rising = λ copies. record { rises = lit≤ tt; small = lit≤ tt; few = refl; count = refl; placed = all_placed copies; ended = ended };
     taken = chunk_taken_too;
     made = record { created = c.made; header_ends = lit≤ tt; block_ends = lit≤ tt };
     names = record {
@@ -91,9 +88,7 @@ module _ (u h v w : Store) (ms : List Move) (cs fixed supers : List Write) (t : 
       changed = c.named.marks 845 c.changed;
       behind = subst (λ (us : List Used). AreAmong (behind_of 8 v) (chunk_at 240 8 ∷ us)) (c.held.behind 8) (c.named.behind 8);
     };
-    placed = all_placed;
     plan = c.plan;
-    ended = ended;
   }
 
   start_it : StartIt u v ms cs fixed supers w t

@@ -3,9 +3,9 @@ use Rattle.std.proofs.Common.{◌≡◌, ◌⊎◌, ℕ, ◌+◌, Bool, true, fa
 use Rattle.std.specs.Prelude.{◌&&◌, ◌||◌, ◌==◌, not, nat_le, nat_lt}
 use Rattle.std.proofs.lemmas.Bool.{leb-true, ltb-true, eqb-true, eq-eqb}
 use Rattle.h5w_model.specs.Findings.{Used, overlap_of, by_place}
-use Rattle.h5w_visit_laws.specs.Ranges.{Among, AllAmong, AllEndBy, AllSome, AreApart, Disjoint}
-use Rattle.h5w_visit_laws.proofs.RangeLemmas.{some_nil, some_cons, ends_nil, ends_cons}
-use Rattle.h5w_visit_laws.proofs.OverlapLemmas.{overlap_laws}
+use Rattle.h5w_step_laws.specs.Ranges.{Among, AllAmong, AllEndBy, AllSome, AreApart, Disjoint}
+use Rattle.h5w_step_laws.proofs.RangeLemmas.{some_nil, some_cons, ends_nil, ends_cons}
+use Rattle.h5w_step_laws.proofs.OverlapLemmas.{overlap_laws}
 use Rattle.h5w_step_laws.specs.Moments.{Moment}
 use Rattle.h5w_step_laws.specs.Steps.{OffAll, Clear}
 

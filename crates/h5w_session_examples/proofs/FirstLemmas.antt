@@ -26,8 +26,8 @@ use Rattle.h5w_chunks.proofs.EarlyLemmas.{rows_stand}
 use Rattle.h5w_chunks.proofs.WriteLaws.{rows_written}
 use Rattle.h5w_examples.specs.Files.{created_file, file_of_three}
 use Rattle.h5w_examples.specs.Readings.{data_name, piece_of, described_by}
-use Rattle.h5w_visit_laws.specs.Ranges.{Among, block_at, chunk_at}
-use Rattle.h5w_visit_laws.specs.Indexes.{behind_visit}
+use Rattle.h5w_step_laws.specs.Ranges.{Among, block_at, chunk_at}
+use Rattle.h5w_step_laws.specs.Indexes.{behind_visit}
 use Rattle.h5w_step_laws.specs.Logs.{image_now}
 use Rattle.h5w_session_examples.specs.Moments.{chunks_of_two, with_none, created_twos, values_of_three}
 use Rattle.h5w_session_examples.proofs.Decisions.{disjoint_by, all_among_by}

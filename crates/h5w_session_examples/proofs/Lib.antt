@@ -1,15 +1,15 @@
-pub mod Decisions
-pub mod StepHelpers
-pub mod OnesCreated
-pub mod OnesFive
-pub mod OnesSix
-pub mod OnesSeven
-pub mod TwosCreated
-pub mod TwosThree
-pub mod TwosFour
-pub mod WrongOrders
-pub mod SlotLemmas
-pub mod FirstLemmas
-pub mod UnnamedLemmas
-pub mod CallLemmas
-pub mod AloneLemmas
+mod Decisions
+mod StepHelpers
+mod OnesCreated
+mod OnesFive
+mod OnesSix
+mod OnesSeven
+mod TwosCreated
+mod TwosThree
+mod TwosFour
+mod WrongOrders
+mod SlotLemmas
+mod FirstLemmas
+mod UnnamedLemmas
+mod CallLemmas
+mod AloneLemmas

@@ -15,7 +15,7 @@ use Rattle.h5w_examples.specs.OneRowFiles.{five_of_ones}
 use Rattle.h5w_examples.specs.Readings.{piece_of, data_name}
 use Rattle.h5w_examples.proofs.CellLemmas.{each_cell}
 use Rattle.h5w_examples.proofs.HeaderBytes.{header_stays}
-use Rattle.h5w_visit_laws.specs.Ranges.{block_at}
+use Rattle.h5w_step_laws.specs.Ranges.{block_at}
 use Rattle.h5w_step_laws.specs.Moments.{Moment, reading_of, all_used}
 use Rattle.h5w_step_laws.specs.Steps.{Step, ends}
 use Rattle.h5w_step_laws.specs.Logs.{Goes, image_now}

@@ -12,9 +12,9 @@ use Rattle.h5w_model.specs.Numbers.{num, le, halvings, width_of, range}
 use Rattle.h5w_model.specs.Tables.{in_array}
 use Rattle.h5w_model.specs.Prefixed.{PrefixedEach}
 use Rattle.h5w_examples.specs.Readings.{described_by, data_name}
-use Rattle.h5w_visit_laws.specs.Ranges.{block_at}
-use Rattle.h5w_visit_laws.specs.Indexes.{IsIndex}
-use Rattle.h5w_visit_laws.proofs.IndexLaws.{index_of_parts}
+use Rattle.h5w_step_laws.specs.Ranges.{block_at}
+use Rattle.h5w_step_laws.specs.Indexes.{IsIndex}
+use Rattle.h5w_step_laws.proofs.IndexLaws.{index_of_parts}
 use Rattle.h5w_step_laws.specs.Moments.{Represents, all_used}
 use Rattle.h5w_step_laws.specs.Logs.{Goes, image_now}
 use Rattle.h5w_step_laws.proofs.GoesLemmas.{begin_goes, reads_now}

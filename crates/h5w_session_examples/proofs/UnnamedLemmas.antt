@@ -29,10 +29,10 @@ use Rattle.h5w_chunks.proofs.EarlyLemmas.{rows_stand}
 use Rattle.h5w_chunks.proofs.WriteLaws.{rows_written}
 use Rattle.h5w_examples.proofs.CellLemmas.{each_cell}
 use Rattle.h5w_examples.specs.Readings.{data_name, piece_of, described_by, summary_as}
-use Rattle.h5w_visit_laws.specs.Ranges.{Among, Disjoint, block_at, chunk_at}
-use Rattle.h5w_visit_laws.specs.Indexes.{IsIndex, behind_visit}
-use Rattle.h5w_visit_laws.proofs.IndexLaws.{index_of_parts}
-use Rattle.h5w_header_laws.specs.Files.{chunk_0, LayoutInChunk0}
+use Rattle.h5w_step_laws.specs.Ranges.{Among, Disjoint, block_at, chunk_at}
+use Rattle.h5w_step_laws.specs.Indexes.{IsIndex, behind_visit}
+use Rattle.h5w_step_laws.proofs.IndexLaws.{index_of_parts}
+use Rattle.h5w_step_laws.specs.Files.{chunk_0, LayoutInChunk0}
 use Rattle.h5w_step_laws.specs.Moments.{Represents, reading_of, all_used}
 use Rattle.h5w_step_laws.specs.Steps.{Ends}
 use Rattle.h5w_session_examples.proofs.Decisions.{disjoint_by, all_among_by}

@@ -17,7 +17,7 @@ use Rattle.h5w_model.specs.Findings.{Finding, found, Used, checked_dataset, inde
 use Rattle.h5w_model.specs.declared.piece.Write.{Write}
 use Rattle.h5w_examples.specs.OneRowFiles.{six_of_ones}
 use Rattle.h5w_examples.specs.Readings.{described_by, piece_of, data_name}
-use Rattle.h5w_visit_laws.specs.Ranges.{Among, block_at}
+use Rattle.h5w_step_laws.specs.Ranges.{Among, block_at}
 use Rattle.h5w_step_laws.specs.Moments.{Moment, reading_of, all_used}
 use Rattle.h5w_step_laws.specs.Steps.{Step, unseen, ends, switches, commits, Commits, LiesIn, InChunk0}
 use Rattle.h5w_step_laws.specs.Logs.{Goes, image_now}

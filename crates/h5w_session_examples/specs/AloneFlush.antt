@@ -6,7 +6,7 @@ use Rattle.h5w_model.specs.Findings.{Valid}
 use Rattle.h5w_model.specs.declared.piece.Write.{Write}
 use Rattle.h5w_chunks.specs.declared.grid.ChunkPlace.{ChunkPlace}
 use Rattle.h5w_examples.specs.Readings.{data_name, described_by, summary_as}
-use Rattle.h5w_visit_laws.specs.Ranges.{block_at}
+use Rattle.h5w_step_laws.specs.Ranges.{block_at}
 use Rattle.h5w_space.specs.Space.{Space}
 use Rattle.h5w_cache.specs.Stores.{Store, is_changed}
 use Rattle.h5w_cache.specs.declared.moves.Move.{Move}

@@ -7,7 +7,7 @@ use Rattle.h5w_space.specs.Space.{Space}
 use Rattle.h5w_chunks.specs.declared.grid.ChunkPlace.{ChunkPlace}
 use Rattle.h5w_examples.specs.Files.{file_of_three}
 use Rattle.h5w_examples.specs.Readings.{data_name, piece_of}
-use Rattle.h5w_visit_laws.specs.Ranges.{block_at}
+use Rattle.h5w_step_laws.specs.Ranges.{block_at}
 use Rattle.h5w_step_laws.specs.Logs.{image_now}
 use Rattle.h5w_session_examples.specs.Moments.{chunks_of_two, with_none, with_three, created_twos, values_of_three}
 use Rattle.h5w_flush_laws.specs.Knowledge.{Knows}

@@ -2,7 +2,7 @@
 use Rattle.std.specs.Prelude.{ℕ, List, [], ◌∷◌, pos, ℤ}
 use Rattle.h5w_model.specs.Logs.{Log, appends, plans, shows}
 use Rattle.h5w_model.specs.Findings.{Used}
-use Rattle.h5w_visit_laws.specs.Ranges.{block_at, chunk_at}
+use Rattle.h5w_step_laws.specs.Ranges.{block_at, chunk_at}
 use Rattle.h5w_examples.specs.Files.{created_file}
 use Rattle.h5w_examples.specs.OneRowFiles.{empty_of_ones, five_of_ones, six_of_ones}
 use Rattle.h5w_examples.specs.Readings.{described_by, piece_of, copied_block}

@@ -7,7 +7,7 @@ use Rattle.h5w_model.specs.declared.cell.Key.{Key}
 use Rattle.h5w_model.specs.declared.piece.Write.{Write}
 use Rattle.h5w_chunks.specs.declared.grid.ChunkPlace.{ChunkPlace}
 use Rattle.h5w_examples.specs.Readings.{data_name, described_by, piece_of, summary_as}
-use Rattle.h5w_visit_laws.specs.Ranges.{block_at, chunk_at}
+use Rattle.h5w_step_laws.specs.Ranges.{block_at, chunk_at}
 use Rattle.h5w_step_laws.specs.Moments.{Moment, Represents}
 use Rattle.h5w_step_laws.specs.Steps.{Ends}
 use Rattle.h5w_flush_laws.specs.Knowledge.{Knows}

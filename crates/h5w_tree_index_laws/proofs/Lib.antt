@@ -1,5 +1,5 @@
-pub mod TreeReadLemmas
-pub mod TreeVisitLemmas
+mod TreeReadLemmas
+mod TreeVisitLemmas
 pub mod TreeStandLemmas
 pub mod TreePlanLemmas
 pub mod TreeRangeLemmas
@@ -10,6 +10,6 @@ pub mod TreeMapLemmas
 pub mod TreeChangeLemmas
 pub mod TreeMarkLemmas
 pub mod TreeDepthLemmas
-pub mod TreePlaceLemmas
+mod TreePlaceLemmas
 pub mod TreeLaws
 pub mod TreeRestLemmas

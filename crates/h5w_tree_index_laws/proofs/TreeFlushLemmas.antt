@@ -15,8 +15,8 @@ use Rattle.h5w_model.specs.declared.cell.Key.{Key}
 use Rattle.h5w_model.specs.declared.piece.Write.{Write}
 use Rattle.h5w_model.specs.declared.cell.IndexKind.TheVariants.{Tree as a_tree}
 use Rattle.h5w_model.proofs.ImageLemmas.{image-grows, range-image_missed}
-use Rattle.h5w_visit_laws.specs.Ranges.{Among, AllAmong, AllEndBy, Disjoint}
-use Rattle.h5w_visit_laws.proofs.RangeLemmas.{among_left, among_right, among_split}
+use Rattle.h5w_step_laws.specs.Ranges.{Among, AllAmong, AllEndBy, Disjoint}
+use Rattle.h5w_step_laws.proofs.RangeLemmas.{among_left, among_right, among_split}
 use Rattle.h5w_space.specs.Space.{Space}
 use Rattle.h5w_cache.specs.declared.moves.Move.{Move}
 use Rattle.h5w_step_laws.specs.Moments.{Moment, all_used}

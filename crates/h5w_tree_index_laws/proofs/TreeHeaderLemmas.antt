@@ -23,9 +23,9 @@ use Rattle.h5w_model.proofs.ChecksumLemmas.{length-sealed_block}
 use Rattle.h5w_model.proofs.ImageLemmas.{At-apply, length-range, range-image_missed}
 use Rattle.h5w_laws.proofs.ResultLemmas.{then_from}
 use Rattle.h5w_laws.proofs.SlotLemmas.{refused_from}
-use Rattle.h5w_visit_laws.specs.Ranges.{Among, blocks_of}
-use Rattle.h5w_visit_laws.proofs.RangeLemmas.{among_left, among_right}
-use Rattle.h5w_visit_laws.proofs.TreeVisits.{inner_low, leaf_low}
+use Rattle.h5w_step_laws.specs.Ranges.{Among, blocks_of}
+use Rattle.h5w_step_laws.proofs.RangeLemmas.{among_left, among_right}
+use Rattle.h5w_step_laws.proofs.TreeVisits.{inner_low, leaf_low}
 use Rattle.h5w_flush_laws.specs.Parts.{SaysInPlace}
 use Rattle.h5w_bt.proofs.Spelling.{bthd_at-bthd_body, bthd_body, bthd_bytes-is}
 use Rattle.h5w_bt.specs.declared.records.Record.{Record}

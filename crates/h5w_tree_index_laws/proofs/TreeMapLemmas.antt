@@ -10,7 +10,7 @@ use Rattle.h5w_model.specs.Tables.{key_below}
 use Rattle.h5w_model.specs.Trees.{capacity_of}
 use Rattle.h5w_model.specs.Findings.{Used}
 use Rattle.h5w_model.specs.declared.cell.Key.{Key}
-use Rattle.h5w_visit_laws.specs.Ranges.{chunk_at}
+use Rattle.h5w_step_laws.specs.Ranges.{chunk_at}
 use Rattle.h5w_bt.specs.declared.records.Record.{Record}
 use Rattle.h5w_bt.proofs.KeyLemmas.{below-not_back, equal-is, equal-self, below-not_self, above-not_equal, above-from}
 use Rattle.h5w_bt_nodes.specs.Nodes.{address_in}

@@ -10,8 +10,8 @@ use Rattle.h5w_model.specs.Images.{At, Holds, image, pieces}
 use Rattle.h5w_model.specs.Trees.{RecordFields, btin_at, btin_bytes, btin_len, btlf_at, btlf_bytes, capacity_of, node_size}
 use Rattle.h5w_model.specs.Findings.{Used}
 use Rattle.h5w_model.proofs.ImageLemmas.{Apart-sym, At-front, At-image_missed, At-pieces, Holds-front, Holds-rest, image-append}
-use Rattle.h5w_visit_laws.specs.Ranges.{Disjoint, block_at}
-use Rattle.h5w_visit_laws.proofs.TreeVisits.{leaf_low, inner_low}
+use Rattle.h5w_step_laws.specs.Ranges.{Disjoint, block_at}
+use Rattle.h5w_step_laws.proofs.TreeVisits.{leaf_low, inner_low}
 use Rattle.h5w_space.specs.Space.{Space}
 use Rattle.h5w_cache.specs.declared.moves.Move.{Move}
 use Rattle.h5w_flush_laws.specs.Parts.{block_ranges, block_writes}

@@ -11,11 +11,11 @@ use Rattle.h5w_model.specs.Findings.{Used, chunk_bytes}
 use Rattle.h5w_model.specs.declared.cell.Key.{Key}
 use Rattle.h5w_model.specs.declared.piece.Write.{Write}
 use Rattle.h5w_model.proofs.ImageLemmas.{image-grows, range-image_missed}
-use Rattle.h5w_visit_laws.specs.Ranges.{Among, AreApart}
-use Rattle.h5w_visit_laws.proofs.RangeLemmas.{among_left, among_right}
+use Rattle.h5w_step_laws.specs.Ranges.{Among, AreApart}
+use Rattle.h5w_step_laws.proofs.RangeLemmas.{among_left, among_right}
 use Rattle.h5w_space.specs.Space.{Space}
 use Rattle.h5w_cache.specs.declared.moves.Move.{Move}
-use Rattle.h5w_header_laws.specs.Files.{commit_at}
+use Rattle.h5w_step_laws.specs.Files.{commit_at}
 use Rattle.h5w_step_laws.specs.Moments.{Moment, all_used}
 use Rattle.h5w_step_laws.proofs.MomentLemmas.{in_behind, in_fixed, parts_of}
 use Rattle.h5w_flush_laws.specs.Spaces.{AllLive}

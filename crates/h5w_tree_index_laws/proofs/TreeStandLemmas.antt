@@ -9,7 +9,7 @@ use Rattle.h5w_model.specs.Trees.{BthdFields, node_size}
 use Rattle.h5w_model.specs.Tables.{in_tree, address_behind}
 use Rattle.h5w_model.specs.Findings.{Under, node_visit}
 use Rattle.h5w_laws.proofs.ResultLemmas.{and_then_from}
-use Rattle.h5w_visit_laws.specs.Indexes.{behind_visit}
+use Rattle.h5w_step_laws.specs.Indexes.{behind_visit}
 use Rattle.h5w_bt.specs.declared.records.Record.{Record}
 use Rattle.h5w_laws.proofs.EndLemmas.{ranges_are}
 use Rattle.h5w_bt_nodes.specs.Nodes.{Tree, records_of}

@@ -12,9 +12,9 @@ use Rattle.h5w_model.specs.Datasets.{then_also}
 use Rattle.h5w_model.specs.Findings.{Finding, found, Used, Under, chunk_ranges, are_rising, keys_of, joined as under_joined, record_under, node_finding, children_under, node_visit, bad_node, chunk_past_end}
 use Rattle.h5w_model.specs.declared.cell.Key.{Key}
 use Rattle.h5w_laws.proofs.ResultLemmas.{then_from, choice_from, and_then_from}
-use Rattle.h5w_visit_laws.specs.Ranges.{AllEndBy, block_at, chunk_at}
-use Rattle.h5w_visit_laws.proofs.RangeLemmas.{ends_left, ends_right}
-use Rattle.h5w_visit_laws.proofs.TreeVisits.{finds}
+use Rattle.h5w_step_laws.specs.Ranges.{AllEndBy, block_at, chunk_at}
+use Rattle.h5w_step_laws.proofs.RangeLemmas.{ends_left, ends_right}
+use Rattle.h5w_step_laws.proofs.TreeVisits.{finds}
 use Rattle.h5w_bt.specs.declared.records.Record.{Record}
 use Rattle.h5w_bt.specs.Parts.{record_of}
 use Rattle.h5w_laws.proofs.EndLemmas.{ranges_are}

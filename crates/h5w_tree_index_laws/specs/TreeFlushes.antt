@@ -10,10 +10,10 @@ use Rattle.h5w_model.specs.Prefixed.{StaysDefined}
 use Rattle.h5w_model.specs.declared.cell.Key.{Key}
 use Rattle.h5w_model.specs.declared.cell.IndexKind.TheVariants.{Tree as a_tree}
 use Rattle.h5w_model.specs.declared.piece.Write.{Write}
-use Rattle.h5w_visit_laws.specs.Ranges.{Among, AllAmong, block_at}
-use Rattle.h5w_visit_laws.specs.Needed.{AreFew}
+use Rattle.h5w_step_laws.specs.Ranges.{Among, AllAmong, block_at}
+use Rattle.h5w_step_laws.specs.Needed.{AreFew}
 use Rattle.h5w_chunks.specs.declared.grid.ChunkPlace.{ChunkPlace}
-use Rattle.h5w_header_laws.specs.Files.{with_rows}
+use Rattle.h5w_step_laws.specs.Files.{with_rows}
 use Rattle.h5w_space.specs.Space.{Space, IsLive}
 use Rattle.h5w_cache.specs.declared.moves.Move.{Move}
 use Rattle.h5w_step_laws.specs.Moments.{Moment}

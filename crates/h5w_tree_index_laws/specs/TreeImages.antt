@@ -7,9 +7,9 @@ use Rattle.h5w_model.specs.Trees.{btin_at, btin_len, btlf_at, btlf_len, node_siz
 use Rattle.h5w_model.specs.Tables.{InPlace, nowhere, in_tree, address_behind}
 use Rattle.h5w_model.specs.Findings.{Used}
 use Rattle.h5w_model.specs.declared.cell.Key.{Key}
-use Rattle.h5w_visit_laws.specs.Ranges.{AllAmong, AllEndBy, block_at, chunk_at}
+use Rattle.h5w_step_laws.specs.Ranges.{AllAmong, AllEndBy, block_at, chunk_at}
 use Rattle.h5w_step_laws.specs.Counts.{count_at}
-use Rattle.h5w_visit_laws.specs.Indexes.{behind_visit}
+use Rattle.h5w_step_laws.specs.Indexes.{behind_visit}
 use Rattle.h5w_bt.specs.declared.records.Record.{Record}
 use Rattle.h5w_bt.specs.Parts.{record_of}
 use Rattle.h5w_bt_nodes.specs.Nodes.{Tree}

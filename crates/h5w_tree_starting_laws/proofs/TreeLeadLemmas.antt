@@ -1,12 +1,12 @@
 -- What a first flush of a tree leads to.
-use Rattle.std.proofs.Common.{◌≡◌, ℕ, ◌+◌, ◌<◌, ◌^◌, true, List, [], ◌∷◌, ◌++◌, refl, sym, ◌∙◌, subst, inl, inr}
+use Rattle.std.proofs.Common.{◌≡◌, ℕ, true, List, [], ◌∷◌, ◌++◌, refl, sym, subst, inl, inr}
 use Rattle.std.specs.Prelude.{ℤ}
 use Rattle.h5w_model.specs.Images.{AllMiss, At, image}
 use Rattle.h5w_model.specs.Trees.{bthd_bytes}
 use Rattle.h5w_model.specs.Findings.{Used, chunk_bytes}
 use Rattle.h5w_model.specs.declared.piece.Write.{Write}
 use Rattle.h5w_model.proofs.ImageLemmas.{At-image_missed}
-use Rattle.h5w_visit_laws.specs.Ranges.{Among}
+use Rattle.h5w_step_laws.specs.Ranges.{Among}
 use Rattle.h5w_space.specs.Space.{Space}
 use Rattle.h5w_cache.specs.declared.moves.Move.{Move}
 use Rattle.h5w_chunks.specs.declared.grid.ChunkPlace.{ChunkPlace}

@@ -14,7 +14,7 @@ use Rattle.h5w_space.specs.Space.{Space}
 use Rattle.h5w_cache.specs.declared.moves.Move.{Move}
 use Rattle.h5w_chunks.specs.Shares.{touched_key}
 use Rattle.h5w_chunks.specs.declared.grid.ChunkPlace.{ChunkPlace}
-use Rattle.h5w_header_laws.specs.Files.{commit_at}
+use Rattle.h5w_step_laws.specs.Files.{commit_at}
 use Rattle.h5w_step_laws.specs.Moments.{Moment}
 use Rattle.h5w_array_laws.specs.Among.{AreAmong}
 use Rattle.h5w_array_laws.proofs.FixedLemmas.{one_piece}
@@ -97,13 +97,9 @@ module _ (img : List ℕ) (m : Moment) (base b t : Space) (place : ℕ) (v w : I
     copies = copies;
     blocks = c.plan.1.copies;
     start = record {
-      rises = c.rises;
-      small = c.small;
-      few = c.few;
-      count = c.count;
+      rising = c.rising copies;
       taken = c.taken;
       ends = c.ends;
-      placed = c.placed copies;
       index = sound.index;
       filled = filled_kept no_tree v c.named.partly.like.shares (omega arith);
       unwritten = unwritten;
@@ -111,7 +107,6 @@ module _ (img : List ℕ) (m : Moment) (base b t : Space) (place : ℕ) (v w : I
       behind = record { among = among.among; counts = among.counts };
       plan = subst (λ (ws : List Write). IsTreePlan place v b ms ws fixed w t) c.plan.1.copies c.plan.1;
       copied = refl;
-      ended = c.ended;
     };
     pieces = all_pieces;
   }

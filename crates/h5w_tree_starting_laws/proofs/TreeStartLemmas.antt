@@ -1,5 +1,5 @@
 -- The first flush of a file whose tree is not there yet is a flush.
-use Rattle.std.proofs.Common.{◌≡◌, ◌⊎◌, ℕ, ◌+◌, ◌<◌, ◌≤◌, ◌^◌, List, [], ◌∷◌, ◌++◌, length, map, take, refl, sym, ◌∙◌, ap, subst, arith, sum_by}
+use Rattle.std.proofs.Common.{◌≡◌, ℕ, ◌+◌, ◌<◌, ◌^◌, List, [], ◌∷◌, ◌++◌, length, map, take, refl, sym, ◌∙◌, ap, subst, arith, sum_by}
 use Rattle.std.specs.Prelude.{Some, ℤ}
 use Rattle.std.proofs.lemmas.List.{length-map, map-append}
 use Rattle.std.proofs.lemmas.List.Sums.{sum_by-append}
@@ -9,7 +9,7 @@ use Rattle.h5w_model.specs.Trees.{bthd_at, bthd_bytes, bthd_len, node_size}
 use Rattle.h5w_model.specs.Findings.{Used, chunk_bytes}
 use Rattle.h5w_model.specs.declared.piece.Write.{Write}
 use Rattle.h5w_model.proofs.ImageLemmas.{Holds-front, Holds-rest}
-use Rattle.h5w_visit_laws.specs.Ranges.{block_at}
+use Rattle.h5w_step_laws.specs.Ranges.{block_at}
 use Rattle.h5w_space.specs.Space.{Space}
 use Rattle.h5w_cache.specs.declared.moves.Move.{Move}
 use Rattle.h5w_chunks.specs.declared.grid.ChunkPlace.{ChunkPlace}
@@ -182,12 +182,12 @@ module _ (img name : List ℕ) (m : Moment) (base b t : Space) (place : ℕ) (v 
         answers = λ key n. read.found header_now.total key;
         each_says = tt;
         said = λ none. said;
+        named = (r.unnamed.address, let ends = x.ends in omega (arith, ends));
       }
 
   pub start_first : IsFirstFlush img m r.knows.held base t f
   start_first =
-      first_is_flush img name m base t f (head ∷ []) (fresh ms) places r.knows
-      (record { rises = x.rises; small = x.small; few = x.few; count = x.count; placed = x.placed; ended = x.ended; named = (r.unnamed.address, let ends = x.ends in omega (arith, ends)) }) takes says
+      first_is_flush img name m base t f (head ∷ []) (fresh ms) places r.knows x.rising takes says
 
 pub tree_start_is_flush : TreeStartIsFlush
 tree_start_is_flush img name m base b t place v w ms rows more writes places copies fixed supers r x = (start_first img name m base b t place v w ms rows more writes places copies fixed supers r x).flush

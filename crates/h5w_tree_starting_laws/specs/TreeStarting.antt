@@ -1,5 +1,5 @@
 -- A file whose tree is not there yet: the layout names none, so all its chunks are absent. Its first flush makes the tree at new places.
-use Rattle.std.specs.Prelude.{◌≡◌, ℕ, ◌+◌, ◌*◌, ◌^◌, ◌<◌, false, List, [], ◌∷◌, ◌++◌, length, Some, ℤ}
+use Rattle.std.specs.Prelude.{◌≡◌, ℕ, ◌+◌, ◌^◌, ◌<◌, false, List, [], ◌∷◌, ◌++◌, Some, ℤ}
 use Rattle.h5w_model.specs.Images.{image}
 use Rattle.h5w_model.specs.Trees.{bthd_bytes, bthd_len}
 use Rattle.h5w_model.specs.Headers.{with_rows_bytes}
@@ -7,9 +7,8 @@ use Rattle.h5w_model.specs.Logs.{Log, appended}
 use Rattle.h5w_model.specs.Findings.{Used, chunk_bytes}
 use Rattle.h5w_model.specs.declared.cell.IndexKind.TheVariants.{Tree as a_tree}
 use Rattle.h5w_model.specs.declared.piece.Write.{Write}
-use Rattle.h5w_visit_laws.specs.Needed.{AreFew}
 use Rattle.h5w_chunks.specs.declared.grid.ChunkPlace.{ChunkPlace}
-use Rattle.h5w_header_laws.specs.Files.{chunk_0, with_rows}
+use Rattle.h5w_step_laws.specs.Files.{chunk_0}
 use Rattle.h5w_space.specs.Space.{Space}
 use Rattle.h5w_cache.specs.declared.moves.Move.{Move}
 use Rattle.h5w_step_laws.specs.Moments.{Moment}
@@ -18,9 +17,8 @@ use Rattle.h5w_step_laws.specs.Logs.{image_now}
 use Rattle.h5w_step_laws.specs.Sessions.{Runs}
 use Rattle.h5w_flush_laws.specs.Spaces.{Taken}
 use Rattle.h5w_flush_laws.specs.Knowledge.{Knows}
-use Rattle.h5w_flush_laws.specs.Parts.{AreEnded, IsFlush, Parts, block_writes, flushed_to, pieces_of}
-use Rattle.h5w_flush_laws.specs.Rows.{ArePlaced}
-use Rattle.h5w_first_flush_laws.specs.FirstFlushes.{IsFirstOver, UnnamedKnows, no_chunk}
+use Rattle.h5w_flush_laws.specs.Parts.{IsFlush, Parts, block_writes, flushed_to, pieces_of}
+use Rattle.h5w_first_flush_laws.specs.FirstFlushes.{IsFirstOver, RisesTo, UnnamedKnows, no_chunk}
 use Rattle.h5w_bt.specs.declared.records.Record.{Record}
 use Rattle.h5w_flush_laws.specs.Chunks.{chunks_for}
 use Rattle.h5w_bt_index.specs.Marks.{Part, clean_of}
@@ -65,14 +63,10 @@ parts_for m place w rows more writes places copies supers last = starting_parts 
 -- new rows have their addresses, some of which it got.
 pub record IsTreeStart (img : List ℕ) (m : Moment) (base b : Space) (place : ℕ) (v : Index) (ms : List Move) (w : Index) (t : Space) (rows : ℕ) (more : List ℤ) (writes : List Write) (places : List ChunkPlace) (copies : List (ℕ × List ℕ))
     (fixed supers : List Write) : Type 0 where
-  pub rises : m.dataset.shape.rows < rows
-  pub small : rows < 2 ^ 64
-  pub few : AreFew (with_rows rows m.dataset)
-  pub count : length (m.values ++ more) ≡ rows * m.dataset.shape.cols
+  pub rising : RisesTo img m (parts_for m place w rows more writes places copies supers t.end) places
   -- the places of the header and of the new chunks
   pub taken : Taken base (header_range place ∷ chunks_for m no_chunk places) b
   pub ends : place + bthd_len < 2 ^ 64
-  pub placed : ArePlaced img m no_chunk (parts_for m place w rows more writes places copies supers t.end) places
   pub index : IsIndex v
   pub filled : IsFilled v
   pub unwritten : IsUnwritten v
@@ -81,7 +75,6 @@ pub record IsTreeStart (img : List ℕ) (m : Moment) (base b : Space) (place : �
   pub behind : AreAmong (behind_of (chunk_bytes m.dataset) v) (chunks_for m no_chunk places)
   pub plan : IsTreePlan place v b ms (block_writes copies) fixed w t
   pub copied : copies ≡ written v.depth (news ms) v.root
-  pub ended : AreEnded m.super t.end supers
 
 -- ---- Laws
 
