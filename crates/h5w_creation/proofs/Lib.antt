@@ -1,3 +1,4 @@
 pub mod FormLemmas
 pub mod HeaderLemmas
 pub mod MadeLemmas
+pub mod OptionLemmas

@@ -1,3 +1,4 @@
 pub mod Forms
 pub mod Headers
 pub mod Made
+pub mod NewFiles

@@ -2,7 +2,7 @@
 ghost use Rattle.std.specs.Prelude.{◌≡◌, ◌∷◌, ◌++◌, [], length, ◌≤◌, vec_capacity, IfOk};
 ghost use Rattle.h5w_model.specs.Superblock.{super_bytes};
 ghost use Rattle.h5w_chunks.specs.Grids.{IsGrid, dataset_of};
-ghost use Rattle.h5w_header_laws.specs.Spelled.{spelled_header};
+ghost use Rattle.h5w_step_laws.specs.Spelled.{spelled_header};
 ghost use Rattle.h5w_index.specs.Held.{view_of};
 ghost use Rattle.h5w_index.specs.Views.{IsSound};
 ghost use Rattle.h5w_creation_laws.specs.CreatedFiles as files;

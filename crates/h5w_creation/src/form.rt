@@ -7,8 +7,10 @@ ghost use Rattle.h5w_chunks.specs.Grids.{IsGrid, dataset_of};
 ghost use Rattle.h5w_creation_laws.specs.CreatedFiles as files;
 ghost use Rattle.h5w_creation.specs.Forms.{IsForm, created_by};
 
+use h5w_bt::Bthd;
 use h5w_bytes::width_of;
 use h5w_chunks::{Fill, Grid, IndexKind, IntType, Layout, Shape};
+use h5w_ea::{Eahd, Eaib};
 
 /// By what a file is created, beside its dataset's name.
 #[derive(Clone, Copy)]
@@ -49,13 +51,13 @@ pub const ROOT_PLACE: u64 = 48;
 const ROOT_LEN: u64 = 54;
 
 /// How many bytes an array's header has.
-pub const ARRAY_LEN: u64 = 72;
+pub const ARRAY_LEN: u64 = Eahd::LEN as u64;
 
 /// How many bytes an array's index block has.
-pub const BLOCK_LEN: u64 = 298;
+pub const BLOCK_LEN: u64 = Eaib::LEN as u64;
 
 /// How many bytes a tree's header has.
-pub const TREE_LEN: u64 = 38;
+pub const TREE_LEN: u64 = Bthd::LEN as u64;
 
 /// How many bytes the data of the fill value message have.
 fn fill_len(form: &Form) -> u64

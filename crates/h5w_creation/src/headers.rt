@@ -7,7 +7,7 @@ ghost use Rattle.h5w_model.specs.Messages.{fill_bytes, int_type_bytes, layout_by
 ghost use Rattle.h5w_types.specs.Fields.{int_type_of, shape_of};
 ghost use Rattle.h5w_layout.specs.Layouts.{fill_of, layout_of};
 ghost use Rattle.h5w_chunks.specs.Grids.{IsGrid, dataset_of};
-ghost use Rattle.h5w_header_laws.specs.Spelled.{IsSpellable, message, spelled_header, spelled_messages};
+ghost use Rattle.h5w_step_laws.specs.Spelled.{IsSpellable, message, spelled_header, spelled_messages};
 ghost use Rattle.h5w_creation_laws.specs.CreatedFiles.{group_info_kind};
 ghost use Rattle.h5w_creation.specs.Headers.{links_to};
 

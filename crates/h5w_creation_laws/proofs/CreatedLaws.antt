@@ -24,12 +24,12 @@ use Rattle.h5w_space.specs.declared.Extent.{Extent}
 use Rattle.h5w_cache.specs.Stores.{Store, block_of}
 use Rattle.h5w_cache.specs.Plans.{bytes_of}
 use Rattle.h5w_cache.specs.StoreLaws.{IsPlaced, Standing, range_of}
-use Rattle.h5w_visit_laws.specs.Ranges.{AllEndBy, Disjoint, block_at}
-use Rattle.h5w_visit_laws.specs.Indexes.{IsIndex}
-use Rattle.h5w_visit_laws.proofs.RangeLemmas.{ends_nil, ends_cons}
-use Rattle.h5w_visit_laws.proofs.IndexLaws.{index_of_parts}
-use Rattle.h5w_header_laws.specs.Spelled.{StandsSpelled}
-use Rattle.h5w_header_laws.proofs.SpelledLemmas.{spelled_stands}
+use Rattle.h5w_step_laws.specs.Ranges.{AllEndBy, Disjoint, block_at}
+use Rattle.h5w_step_laws.specs.Indexes.{IsIndex}
+use Rattle.h5w_step_laws.proofs.RangeLemmas.{ends_nil, ends_cons}
+use Rattle.h5w_step_laws.proofs.IndexLaws.{index_of_parts}
+use Rattle.h5w_step_laws.specs.Spelled.{StandsSpelled}
+use Rattle.h5w_step_laws.proofs.SpelledLemmas.{spelled_stands}
 use Rattle.h5w_step_laws.specs.Moments.{Represents, all_used}
 use Rattle.h5w_flush_laws.proofs.KnownLaws.{begin_knows}
 use Rattle.h5w_array_laws.specs.ArrayStores.{IsCreated}

@@ -20,8 +20,8 @@ use Rattle.h5w_model.specs.declared.refusal.ReadError.{ReadError}
 use Rattle.h5w_model.specs.declared.refusal.ReadError.TheVariants.{Damaged}
 use Rattle.h5w_model.proofs.ArrayLaws.{eaib_at-eaib_bytes}
 use Rattle.h5w_bt.proofs.Spelling.{bthd_bytes-is, bthd_at-bthd_body}
-use Rattle.h5w_visit_laws.specs.Ranges.{blocks_of}
-use Rattle.h5w_visit_laws.specs.Indexes.{behind_visit}
+use Rattle.h5w_step_laws.specs.Ranges.{blocks_of}
+use Rattle.h5w_step_laws.specs.Indexes.{behind_visit}
 use Rattle.h5w_array_laws.proofs.CreatedLemmas.{all_undefined, header_read, header_size, index_size}
 use Rattle.h5w_creation_laws.specs.CreatedFiles.{CreatedFile, IsCreatable, block_place, index_blocks, empty_array, empty_index_block, empty_tree, described_of, fixed_of}
 use Rattle.h5w_creation_laws.proofs.SizeLemmas.{index_low, tree_long}

@@ -3,6 +3,6 @@ pub mod StackLemmas
 pub mod RootLemmas
 pub mod IndexLemmas
 pub mod CreatedLaws
-pub mod LogLaws
+mod LogLaws
 pub mod BornLemmas
-pub mod ExampleLemmas
+mod ExampleLemmas

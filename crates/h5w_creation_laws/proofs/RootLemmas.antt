@@ -19,9 +19,9 @@ use Rattle.h5w_model.specs.declared.refusal.ReadError.{ReadError}
 use Rattle.h5w_model.specs.declared.refusal.ReadError.TheVariants.{Link}
 use Rattle.h5w_model.proofs.LinkLemmas.{link_written}
 use Rattle.h5w_model.proofs.HeaderRoundTrip.{written_prefix, prefix_at-written, behind_prefix, regrouped, messages_at-written}
-use Rattle.h5w_visit_laws.specs.Ranges.{block_at}
-use Rattle.h5w_visit_laws.proofs.RangeLemmas.{ends_nil, ends_cons}
-use Rattle.h5w_visit_laws.proofs.HeaderLaws.{root_from}
+use Rattle.h5w_step_laws.specs.Ranges.{block_at}
+use Rattle.h5w_step_laws.proofs.RangeLemmas.{ends_nil, ends_cons}
+use Rattle.h5w_step_laws.proofs.HeaderLaws.{root_from}
 use Rattle.h5w_creation_laws.specs.CreatedFiles.{CreatedFile, root_place, root_len, header_place, root_messages, root_block, super_of, end_of}
 use Rattle.h5w_creation_laws.proofs.SizeLemmas.{root_messages_long, prefix_long, root_long}
 

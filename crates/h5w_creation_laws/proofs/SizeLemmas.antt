@@ -21,8 +21,8 @@ use Rattle.h5w_model.proofs.MessageLemmas.{shape_rank, length-shape_bytes, lengt
 use Rattle.h5w_model.proofs.LayoutLemmas.{length-layout_bytes, layout_length_bound}
 use Rattle.h5w_bt.proofs.Spelling.{bthd_body, bthd_bytes-is}
 use Rattle.h5w_array_laws.proofs.CreatedLemmas.{header_size, index_size}
-use Rattle.h5w_header_laws.specs.Spelled.{message, IsSpellable}
-use Rattle.h5w_header_laws.proofs.SpelledLemmas.{spelled_read}
+use Rattle.h5w_step_laws.specs.Spelled.{message, IsSpellable}
+use Rattle.h5w_step_laws.proofs.SpelledLemmas.{spelled_read}
 use Rattle.h5w_creation_laws.specs.CreatedFiles.{CreatedFile, IsCreatable, fill_len, layout_len, header_len, root_len, header_place, index_place, block_place, index_len, root_messages, shape_of, layout_of, described_of, super_of, empty_tree, super_block, root_block, header_block, index_blocks, block_write}
 use Rattle.h5w_creation_laws.specs.CreationLaws.{FillGiven}
 

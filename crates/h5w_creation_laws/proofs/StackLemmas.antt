@@ -4,7 +4,7 @@ use Rattle.std.specs.Prelude.{map}
 use Rattle.h5w_model.specs.Images.{apply, image, At, Holds}
 use Rattle.h5w_model.specs.Findings.{Used}
 use Rattle.h5w_model.proofs.ImageLemmas.{At-apply, At-apply_missed, length-apply}
-use Rattle.h5w_visit_laws.specs.Ranges.{Among, Disjoint}
+use Rattle.h5w_step_laws.specs.Ranges.{Among, Disjoint}
 use Rattle.h5w_creation_laws.specs.CreatedFiles.{block_write}
 
 -- each block ends where the one that is written before it begins, or earlier; the first ends by a place

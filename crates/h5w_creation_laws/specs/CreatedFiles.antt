@@ -18,8 +18,8 @@ use Rattle.h5w_model.specs.declared.cell.Key.{Key}
 use Rattle.h5w_model.specs.declared.cell.IndexKind.{IndexKind}
 use Rattle.h5w_model.specs.declared.cell.IndexKind.TheVariants.{Array, Tree}
 use Rattle.h5w_model.specs.declared.piece.Write.{Write}
-use Rattle.h5w_visit_laws.specs.Ranges.{block_at}
-use Rattle.h5w_header_laws.specs.Spelled.{message, spelled_header}
+use Rattle.h5w_step_laws.specs.Ranges.{block_at}
+use Rattle.h5w_step_laws.specs.Spelled.{message, spelled_header}
 use Rattle.h5w_step_laws.specs.Moments.{Moment}
 
 -- By what a session creates a file: the dataset's name and integers, the fill, the rows and columns of a chunk, the dataset's

@@ -12,8 +12,8 @@ use Rattle.h5w_model.specs.declared.piece.Write.{Write}
 use Rattle.h5w_space.specs.Space.{Space}
 use Rattle.h5w_cache.specs.Stores.{Store}
 use Rattle.h5w_cache.specs.StoreLaws.{Standing}
-use Rattle.h5w_header_laws.specs.Files.{LayoutInChunk0}
-use Rattle.h5w_header_laws.specs.Spelled.{IsSpellable}
+use Rattle.h5w_step_laws.specs.Files.{LayoutInChunk0}
+use Rattle.h5w_step_laws.specs.Spelled.{IsSpellable}
 use Rattle.h5w_step_laws.specs.Moments.{Represents}
 use Rattle.h5w_step_laws.specs.Logs.{image_now}
 use Rattle.h5w_flush_laws.specs.Knowledge.{IsMap, KnownHeld}

@@ -9,7 +9,7 @@ use Rattle.h5w_model.specs.Messages.{layout_bytes, layout_width, chunk_sizes, in
 use Rattle.h5w_model.specs.Datasets.{Described, dataspace_kind, datatype_kind, fill_value_kind}
 use Rattle.h5w_model.proofs.NumberLemmas.{length-le}
 use Rattle.h5w_model.proofs.ChecksumLemmas.{length-sealed_block}
-use Rattle.h5w_header_laws.specs.Spelled.{message, spelled_header}
+use Rattle.h5w_step_laws.specs.Spelled.{message, spelled_header}
 use Rattle.h5w_several_creation.specs.Forms.{with_address}
 
 -- the layout's data before the address

@@ -1,2 +1,2 @@
-pub mod HeaderLemmas
+mod HeaderLemmas
 pub mod SetLemmas

@@ -16,7 +16,7 @@ use Rattle.h5w_model.specs.declared.cell.IndexKind.{IndexKind}
 use Rattle.h5w_model.specs.declared.cell.IndexKind.TheVariants.{Array, Tree}
 use Rattle.h5w_model.proofs.HeaderLemmas.{length-header_bytes}
 use Rattle.h5w_model.proofs.HeaderRoundTrip.{prefix_bytes-small, prefix_bytes-large}
-use Rattle.h5w_header_laws.specs.Spelled.{message, spelled_header}
+use Rattle.h5w_step_laws.specs.Spelled.{message, spelled_header}
 use Rattle.h5w_creation_laws.specs.CreatedFiles.{CreatedFile, IsCreatable, block_write, described_of, group_info_kind, header_len, root_place}
 use Rattle.h5w_creation_laws.proofs.SizeLemmas.{header_long}
 use Rattle.h5w_creation.specs.Forms.{IsForm}

@@ -4,7 +4,7 @@ ghost use Rattle.std.specs.List.{sum_by};
 ghost use Rattle.h5w_model.specs.Headers.{header_bytes, msgs_bytes};
 ghost use Rattle.h5w_model.specs.Images.{pieces};
 ghost use Rattle.h5w_model.specs.Links.{group_info_bytes, link_bytes, link_info_bytes, link_info_kind, link_message_kind};
-ghost use Rattle.h5w_header_laws.specs.Spelled.{message};
+ghost use Rattle.h5w_step_laws.specs.Spelled.{message};
 ghost use Rattle.h5w_creation_laws.specs.CreatedFiles.{group_info_kind, root_place};
 ghost use Rattle.h5w_several_creation_laws.specs.SeveralFiles.{first_place};
 ghost use Rattle.h5w_creation.specs.declared.form.Form.{Form};

@@ -1,6 +1,6 @@
 //! The blocks of one dataset, wherever it stands.
 ghost use Rattle.std.specs.Prelude.{◌≡◌, ◌+◌, ◌<◌, ◌≤◌, ◌^◌, ◌++◌, length, map, IfOk, OnOk};
-ghost use Rattle.h5w_header_laws.specs.Spelled.{spelled_header};
+ghost use Rattle.h5w_step_laws.specs.Spelled.{spelled_header};
 ghost use Rattle.h5w_creation_laws.specs.CreatedFiles.{block_write, described_of};
 ghost use Rattle.h5w_creation.specs.Forms.{IsForm};
 ghost use Rattle.h5w_several_creation_laws.specs.SeveralFiles.{end_behind, set_at};

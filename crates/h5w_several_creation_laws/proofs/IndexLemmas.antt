@@ -6,10 +6,10 @@ use Rattle.h5w_model.specs.Trees.{bthd_len}
 use Rattle.h5w_model.specs.Findings.{Used, chunk_bytes}
 use Rattle.h5w_model.specs.declared.cell.IndexKind.{IndexKind}
 use Rattle.h5w_model.specs.declared.cell.IndexKind.TheVariants.{Array, Tree}
-use Rattle.h5w_visit_laws.specs.Ranges.{AllEndBy, block_at}
-use Rattle.h5w_visit_laws.specs.Indexes.{IsIndex}
-use Rattle.h5w_visit_laws.proofs.RangeLemmas.{ends_nil, ends_cons}
-use Rattle.h5w_visit_laws.proofs.IndexLaws.{index_of_parts}
+use Rattle.h5w_step_laws.specs.Ranges.{AllEndBy, block_at}
+use Rattle.h5w_step_laws.specs.Indexes.{IsIndex}
+use Rattle.h5w_step_laws.proofs.RangeLemmas.{ends_nil, ends_cons}
+use Rattle.h5w_step_laws.proofs.IndexLaws.{index_of_parts}
 use Rattle.h5w_creation_laws.specs.CreatedFiles.{CreatedFile, index_len}
 use Rattle.h5w_creation_laws.proofs.IndexLemmas.{IsEmpty, empty_array_there, empty_tree_there}
 use Rattle.h5w_several_creation_laws.specs.SeveralFiles.{index_behind, block_behind, end_behind, described_at, index_at, fixed_at}

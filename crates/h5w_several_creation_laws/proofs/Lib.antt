@@ -1,9 +1,9 @@
 pub mod LinkLemmas
 pub mod PlaceLemmas
 pub mod RootLemmas
-pub mod IndexLemmas
+mod IndexLemmas
 pub mod SetLemmas
-pub mod StandLemmas
+mod StandLemmas
 pub mod StandLaws
 pub mod OneLemmas
-pub mod ExampleLemmas
+mod ExampleLemmas

@@ -24,7 +24,7 @@ use Rattle.h5w_laws.proofs.ResultLemmas.{choice_from}
 use Rattle.h5w_laws.proofs.PrefixLemmas.{IsRootView, root_view_says}
 use Rattle.h5w_laws.proofs.DatasetReads.{look_and_rest, look_says, chunk_in_look, root_view_reads}
 use Rattle.h5w_laws.proofs.LinkLemmas.{IsLinked}
-use Rattle.h5w_header_laws.specs.Spelled.{message}
+use Rattle.h5w_step_laws.specs.Spelled.{message}
 use Rattle.h5w_creation_laws.specs.CreatedFiles.{root_place, group_info_kind}
 use Rattle.h5w_several_creation_laws.specs.SeveralFiles.{AllNamed}
 use Rattle.h5w_several_creation_laws.specs.Links.{AreLinks, IsLink, link_message, link_messages, linking, linking_header_len, linking_len, names_in, names_len, places_in}

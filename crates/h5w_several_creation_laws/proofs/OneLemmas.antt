@@ -12,8 +12,8 @@ use Rattle.h5w_model.specs.declared.cell.IndexKind.{IndexKind}
 use Rattle.h5w_model.specs.declared.cell.IndexKind.TheVariants.{Array, Tree}
 use Rattle.h5w_model.specs.declared.root.Super.{Super}
 use Rattle.h5w_model.specs.declared.piece.Write.{Write}
-use Rattle.h5w_visit_laws.specs.Ranges.{block_at}
-use Rattle.h5w_header_laws.specs.Spelled.{message}
+use Rattle.h5w_step_laws.specs.Ranges.{block_at}
+use Rattle.h5w_step_laws.specs.Spelled.{message}
 use Rattle.h5w_step_laws.specs.Moments.{Moment}
 use Rattle.h5w_creation_laws.specs.CreatedFiles as one
 use Rattle.h5w_creation_laws.specs.CreatedFiles.{CreatedFile, IsCreatable, root_place, header_place, header_len, group_info_kind, header_block, block_write, index_blocks, fixed_of}

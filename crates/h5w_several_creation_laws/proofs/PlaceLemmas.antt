@@ -9,7 +9,7 @@ use Rattle.h5w_model.specs.Trees.{bthd_len}
 use Rattle.h5w_model.specs.Findings.{Used, the_superblock}
 use Rattle.h5w_model.specs.declared.cell.IndexKind.{IndexKind}
 use Rattle.h5w_model.specs.declared.cell.IndexKind.TheVariants.{Array, Tree}
-use Rattle.h5w_visit_laws.specs.Ranges.{block_at}
+use Rattle.h5w_step_laws.specs.Ranges.{block_at}
 use Rattle.h5w_creation_laws.specs.CreatedFiles.{CreatedFile, IsCreatable, root_place, header_len, index_len}
 use Rattle.h5w_creation_laws.proofs.SizeLemmas.{header_short, index_lens}
 use Rattle.h5w_creation_laws.proofs.StackLemmas.{Stacked}

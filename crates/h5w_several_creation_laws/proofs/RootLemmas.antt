@@ -11,7 +11,7 @@ use Rattle.h5w_model.specs.Relations.{AllPaired}
 use Rattle.h5w_model.specs.declared.message.Msg.{Msg}
 use Rattle.h5w_model.specs.declared.message.Prefix.{Prefix}
 use Rattle.h5w_laws.proofs.LinkLemmas.{IsLinked}
-use Rattle.h5w_header_laws.specs.Spelled.{message}
+use Rattle.h5w_step_laws.specs.Spelled.{message}
 use Rattle.h5w_creation_laws.specs.CreatedFiles.{CreatedFile, IsCreatable, group_info_kind, root_place}
 use Rattle.h5w_several_creation_laws.specs.Links.{AreLinks, IsLink, link_message, link_messages, linking, linking_header_len, linking_len, names_in, names_len, places_in}
 use Rattle.h5w_several_creation_laws.specs.SeveralFiles.{AllNamed, AreCreatable, names_of, end_behind, links_len, messages_len, root_len, first_place, end_from, links_from, root_messages, root_bytes}

@@ -12,8 +12,8 @@ use Rattle.h5w_model.specs.declared.piece.Write.{Write}
 use Rattle.h5w_model.proofs.ImageLemmas.{length-apply, Holds-append, Holds-image_missed, AllSized-append}
 use Rattle.h5w_model.proofs.LayoutLemmas.{length-layout_bytes}
 use Rattle.h5w_array_laws.proofs.CreatedLemmas.{header_size, index_size}
-use Rattle.h5w_header_laws.specs.Spelled.{IsSpellable}
-use Rattle.h5w_header_laws.proofs.SpelledLemmas.{spelled_read}
+use Rattle.h5w_step_laws.specs.Spelled.{IsSpellable}
+use Rattle.h5w_step_laws.proofs.SpelledLemmas.{spelled_read}
 use Rattle.h5w_creation_laws.specs.CreatedFiles.{CreatedFile, IsCreatable, header_len, index_len, layout_of, shape_of, described_of, empty_array, empty_index_block, empty_tree, block_write}
 use Rattle.h5w_creation_laws.specs.CreationLaws.{WritesEndBy}
 use Rattle.h5w_creation_laws.proofs.SizeLemmas.{header_long, header_short, spellable, tree_long}

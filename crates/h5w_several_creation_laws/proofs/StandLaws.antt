@@ -18,9 +18,9 @@ use Rattle.h5w_laws.proofs.ResultLemmas.{and_then_from}
 use Rattle.h5w_laws.proofs.FitLemmas.{free_fit}
 use Rattle.h5w_laws.proofs.LinkLemmas.{IsLinked}
 use Rattle.h5w_laws.proofs.SeveralLemmas.{finds_all}
-use Rattle.h5w_visit_laws.specs.Ranges.{Disjoint, block_at}
-use Rattle.h5w_visit_laws.proofs.HeaderVisits.{ranges_from}
-use Rattle.h5w_visit_laws.proofs.OverlapLemmas.{overlap_laws}
+use Rattle.h5w_step_laws.specs.Ranges.{Disjoint, block_at}
+use Rattle.h5w_step_laws.proofs.HeaderVisits.{ranges_from}
+use Rattle.h5w_step_laws.proofs.OverlapLemmas.{overlap_laws}
 use Rattle.h5w_step_laws.specs.Moments.{Represents}
 use Rattle.h5w_creation_laws.specs.CreatedFiles.{CreatedFile, root_place, header_len, block_write}
 use Rattle.h5w_creation_laws.specs.CreationLaws.{WritesEndBy}

@@ -17,10 +17,10 @@ use Rattle.h5w_model.specs.declared.cell.IndexKind.TheVariants.{Array, Tree}
 use Rattle.h5w_model.proofs.ImageLemmas.{Holds-front, Holds-rest}
 use Rattle.h5w_model.proofs.SuperLemmas.{length-super_bytes, super_at-super_bytes}
 use Rattle.h5w_laws.proofs.LinkLemmas.{IsLinked}
-use Rattle.h5w_visit_laws.specs.Ranges.{AllEndBy, block_at}
-use Rattle.h5w_visit_laws.proofs.RangeLemmas.{ends_nil, ends_cons}
-use Rattle.h5w_visit_laws.proofs.HeaderLaws.{root_from}
-use Rattle.h5w_header_laws.proofs.SpelledLemmas.{spelled_stands}
+use Rattle.h5w_step_laws.specs.Ranges.{AllEndBy, block_at}
+use Rattle.h5w_step_laws.proofs.RangeLemmas.{ends_nil, ends_cons}
+use Rattle.h5w_step_laws.proofs.HeaderLaws.{root_from}
+use Rattle.h5w_step_laws.proofs.SpelledLemmas.{spelled_stands}
 use Rattle.h5w_step_laws.specs.Moments.{Represents, all_used}
 use Rattle.h5w_creation_laws.specs.CreatedFiles.{CreatedFile, IsCreatable, root_place, header_len}
 use Rattle.h5w_creation_laws.proofs.StackLemmas.{Stacked, stacked_apart}

@@ -3,7 +3,7 @@ use Rattle.std.specs.Prelude.{ℕ, ◌+◌, ◌<◌, ◌≤◌, ◌^◌, List, [
 use Rattle.std.specs.List.{AllByRecursion}
 use Rattle.h5w_model.specs.Links.{link_info_bytes, group_info_bytes, link_bytes, link_info_kind, link_message_kind}
 use Rattle.h5w_model.specs.declared.message.Msg.{Msg}
-use Rattle.h5w_header_laws.specs.Spelled.{message}
+use Rattle.h5w_step_laws.specs.Spelled.{message}
 use Rattle.h5w_creation_laws.specs.CreatedFiles.{group_info_kind}
 
 -- a link: a name, and where the header stands to which it leads

@@ -15,8 +15,8 @@ use Rattle.h5w_model.specs.declared.root.Super.{Super}
 use Rattle.h5w_model.specs.declared.cell.IndexKind.{IndexKind}
 use Rattle.h5w_model.specs.declared.cell.IndexKind.TheVariants.{Array, Tree}
 use Rattle.h5w_model.specs.declared.piece.Write.{Write}
-use Rattle.h5w_visit_laws.specs.Ranges.{block_at}
-use Rattle.h5w_header_laws.specs.Spelled.{message, spelled_header}
+use Rattle.h5w_step_laws.specs.Ranges.{block_at}
+use Rattle.h5w_step_laws.specs.Spelled.{message, spelled_header}
 use Rattle.h5w_step_laws.specs.Moments.{Moment}
 use Rattle.h5w_creation_laws.specs.CreatedFiles.{CreatedFile, IsCreatable, root_place, header_len, index_len, described_of, layout_of, group_info_kind, empty_array, empty_index_block, empty_tree, block_write}
 

@@ -1,7 +1,7 @@
 use Rattle.std.proofs.Common.{◌≤◌, length, sym, subst}
 use Rattle.h5w_model.specs.Datasets.{Described}
-use Rattle.h5w_header_laws.specs.Spelled.{spelled_header}
-use Rattle.h5w_header_laws.proofs.SpelledLemmas.{spelled_read}
+use Rattle.h5w_step_laws.specs.Spelled.{spelled_header}
+use Rattle.h5w_step_laws.proofs.SpelledLemmas.{spelled_read}
 use Rattle.h5w_creation_laws.specs.CreatedFiles.{described_of}
 use Rattle.h5w_creation_laws.proofs.SizeLemmas.{spellable}
 use Rattle.h5w_creation.specs.Forms.{created_by}

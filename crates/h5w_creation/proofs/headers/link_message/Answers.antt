@@ -2,7 +2,7 @@ use Rattle.std.proofs.Common.{◌≡◌, ◌+◌, ◌∙◌, length, take, drop,
 use Rattle.std.proofs.lemmas.List.{take_at}
 use Rattle.std.specs.Result.{IfOk}
 use Rattle.h5w_model.specs.Links.{link_bytes, link_message_kind}
-use Rattle.h5w_header_laws.specs.Spelled.{message}
+use Rattle.h5w_step_laws.specs.Spelled.{message}
 use Rattle.h5w_creation_laws.proofs.SizeLemmas.{length_link}
 use Rattle.h5w_creation.proofs.headers.link_message.Goals as goal
 

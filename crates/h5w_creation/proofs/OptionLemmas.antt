@@ -10,7 +10,7 @@ use Rattle.h5w_types.specs.Fields.{int_type_of}
 use Rattle.h5w_options.specs.Options.{AreColumns, AreOptions, columns_in, grows_in, rank_in, width_in}
 use Rattle.h5w_options.specs.declared.options.Options.{Options}
 use Rattle.h5w_creation_laws.specs.CreatedFiles.{IsCreatable, fill_given}
-use Rattle.h5w_form.specs.NewFiles.{IsFillOf, new_file}
+use Rattle.h5w_creation.specs.NewFiles.{IsFillOf, new_file}
 
 -- a value of the type has bytes of its size
 if_some : (o : Option (List ℕ)) (size : ℕ) → ((bytes : List ℕ) → o ≡ Some bytes → length bytes ≡ size) → IfSome o (λ bytes. length bytes ≡ size)

@@ -3,10 +3,10 @@ ghost use Rattle.std.specs.Prelude.{◌≡◌, if◌then◌else◌};
 ghost use Rattle.h5w_model.specs.declared.cell.IndexKind.TheVariants.{Array, Tree};
 ghost use Rattle.h5w_options.specs.Options.{AreOptions, columns_in, grows_in, rank_in, width_in};
 ghost use Rattle.h5w_creation.specs.Forms.{IsForm, created_by};
-ghost use Rattle.h5w_form.specs.NewFiles.{IsFillOf, new_file};
+ghost use Rattle.h5w_creation.specs.NewFiles.{IsFillOf, new_file};
 
+use crate::form::Form;
 use h5w_chunks::{Fill, IndexKind};
-use h5w_creation::Form;
 use h5w_options::Options;
 use h5w_types::bytes_of;
 

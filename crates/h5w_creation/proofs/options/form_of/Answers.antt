@@ -3,10 +3,10 @@ use Rattle.h5w_model.specs.declared.cell.IndexKind.{IndexKind}
 use Rattle.h5w_model.specs.declared.cell.IndexKind.TheVariants.{Array, Tree}
 use Rattle.h5w_creation.specs.Forms.{a_name, created_by}
 use Rattle.h5w_creation_laws.specs.CreatedFiles.{IsCreatable}
-use Rattle.h5w_form.specs.NewFiles.{new_file}
-use Rattle.h5w_form.proofs.OptionLemmas.{creatable_by}
-use Rattle.h5w_form.proofs.form.form_of.Goals as goal
-use Rattle.h5w_form.proofs.form.form_of.Goals.{After-index_for}
+use Rattle.h5w_creation.specs.NewFiles.{new_file}
+use Rattle.h5w_creation.proofs.OptionLemmas.{creatable_by}
+use Rattle.h5w_creation.proofs.options.form_of.Goals as goal
+use Rattle.h5w_creation.proofs.options.form_of.Goals.{After-index_for}
 
 -- the file that is created, under any name
 file_is : (c : After-index_for) (name : List ℕ) → created_by name (record {

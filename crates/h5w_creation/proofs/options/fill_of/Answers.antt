@@ -4,8 +4,8 @@ use Rattle.std.specs.Option.{option_map}
 use Rattle.std.proofs.lemmas.Int.{to_z-of_z}
 use Rattle.h5w_model.specs.Integers.{cell_bytes_of, cell_of}
 use Rattle.h5w_types.specs.Fields.{int_type_of}
-use Rattle.h5w_form.proofs.OptionLemmas.{some_fill}
-use Rattle.h5w_form.proofs.form.fill_of.Goals as goal
+use Rattle.h5w_creation.proofs.OptionLemmas.{some_fill}
+use Rattle.h5w_creation.proofs.options.fill_of.Goals as goal
 
 pub returns-in-Some : goal.returns-in-Some
 returns-in-Some c =
