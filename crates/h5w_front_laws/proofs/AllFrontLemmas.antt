@@ -4,7 +4,7 @@ use Rattle.h5w_model.specs.Findings.{Used}
 use Rattle.h5w_model.specs.Several.{Begun, FileLog}
 use Rattle.h5w_model.specs.declared.piece.Write.{Write}
 use Rattle.h5w_model.specs.declared.root.Super.{Super}
-use Rattle.h5w_visit_laws.specs.Ranges.{Among}
+use Rattle.h5w_step_laws.specs.Ranges.{Among}
 use Rattle.h5w_space.specs.Space.{Space}
 use Rattle.h5w_several_laws.specs.Turns.{AreKnown, Entry, all_then, flushed as flushed_entry}
 use Rattle.h5w_several_laws.proofs.FoldLemmas.{State}

@@ -1,7 +1,7 @@
-pub mod FrontLemmas
-pub mod PartFrontLemmas
-pub mod OneFrontLemmas
-pub mod EarlyFrontLemmas
-pub mod AllFrontLemmas
+mod FrontLemmas
+mod PartFrontLemmas
+mod OneFrontLemmas
+mod EarlyFrontLemmas
+mod AllFrontLemmas
 pub mod CallFrontLemmas
 pub mod NewFrontLemmas

@@ -14,8 +14,8 @@ use Rattle.h5w_model.specs.Prefixed.{root_address}
 use Rattle.h5w_model.specs.declared.root.Super.{Super}
 use Rattle.h5w_step_laws.specs.Moments.{Moment, Represents, reading_of}
 use Rattle.h5w_step_laws.proofs.MomentLemmas.{root_at, super_parts}
-use Rattle.h5w_visit_laws.proofs.HeaderLaws.{DatasetParts, RootParts, dataset_parts, root_parts}
-use Rattle.h5w_header_laws.specs.Files.{LayoutInChunk0, chunk_0}
+use Rattle.h5w_step_laws.proofs.HeaderLaws.{DatasetParts, RootParts, dataset_parts, root_parts}
+use Rattle.h5w_step_laws.specs.Files.{LayoutInChunk0, chunk_0}
 use Rattle.h5w_headers.specs.Walks.{dataset_header_for, root_header_for}
 use Rattle.h5w_opening.specs.Openings.{Opened, looked_for, most_chunk_bytes, refused_dataset}
 use Rattle.h5w_opening.specs.declared.error.OpenError.{OpenError}

@@ -1,5 +1,5 @@
-pub mod PartLemmas
+mod PartLemmas
 pub mod StandLemmas
-pub mod EmptyLemmas
-pub mod SessionLemmas
-pub mod CreateLemmas
+mod EmptyLemmas
+mod SessionLemmas
+mod CreateLemmas

@@ -20,9 +20,9 @@ use Rattle.h5w_model.proofs.ImageLemmas.{Holds-front, Holds-rest}
 use Rattle.h5w_model.proofs.IntegerLemmas.{int_size_bounds}
 use Rattle.h5w_space.specs.Space.{Space}
 use Rattle.h5w_chunks.specs.Grids.{fill_cell}
-use Rattle.h5w_header_laws.specs.Files.{chunk_0}
-use Rattle.h5w_header_laws.specs.Spelled.{spelled_header}
-use Rattle.h5w_header_laws.proofs.SpelledLemmas.{spelled_stands}
+use Rattle.h5w_step_laws.specs.Files.{chunk_0}
+use Rattle.h5w_step_laws.specs.Spelled.{spelled_header}
+use Rattle.h5w_step_laws.proofs.SpelledLemmas.{spelled_stands}
 use Rattle.h5w_step_laws.specs.Logs.{Goes}
 use Rattle.h5w_step_laws.specs.Moments.{Moment, Represents, all_used}
 use Rattle.h5w_step_laws.specs.Steps.{OffAll}

@@ -6,8 +6,8 @@ use Rattle.h5w_model.specs.Arrays.{eahd_len}
 use Rattle.h5w_model.specs.Datasets.{Described}
 use Rattle.h5w_model.proofs.MessageLemmas.{length-shape_bytes, shape_rank}
 use Rattle.h5w_space.specs.Space.{Apart, extent}
-use Rattle.h5w_header_laws.specs.Spelled.{spelled_header}
-use Rattle.h5w_header_laws.proofs.SpelledLemmas.{spelled_read}
+use Rattle.h5w_step_laws.specs.Spelled.{spelled_header}
+use Rattle.h5w_step_laws.proofs.SpelledLemmas.{spelled_read}
 use Rattle.h5w_index.specs.Views.{IndexView, IsSound}
 use Rattle.h5w_chunks.specs.Grids.{dataset_of}
 use Rattle.h5w_creation_laws.specs.CreatedFiles.{CreatedFile, IsCreatable, described_of}

@@ -4,7 +4,7 @@ use Rattle.h5w_model.specs.Several.{Begun, FileLog, Happened, shows_all}
 use Rattle.h5w_model.specs.declared.piece.Write.{Write}
 use Rattle.h5w_model.specs.declared.root.Super.{Super}
 use Rattle.h5w_space.specs.Space.{Space}
-use Rattle.h5w_header_laws.specs.Spelled.{spelled_header}
+use Rattle.h5w_step_laws.specs.Spelled.{spelled_header}
 use Rattle.h5w_index.specs.Views.{IndexView, IsSound}
 use Rattle.h5w_creation_laws.specs.CreatedFiles.{CreatedFile}
 use Rattle.h5w_creation.specs.Made.{IsNewIndex}

@@ -11,7 +11,7 @@ use Rattle.h5w_model.specs.declared.piece.Write.{Write}
 use Rattle.h5w_model.specs.declared.root.Super.{Super}
 use Rattle.h5w_model.specs.declared.refusal.ReadError.{ReadError}
 use Rattle.h5w_laws.proofs.ResultLemmas.{refused_ok, then_ok}
-use Rattle.h5w_header_laws.specs.Files.{chunk_0}
+use Rattle.h5w_step_laws.specs.Files.{chunk_0}
 use Rattle.h5w_step_laws.proofs.FoundLemmas.{opens}
 use Rattle.h5w_image.specs.View.{ImageView}
 use Rattle.h5w_headers.specs.Ran.{seen}

@@ -16,9 +16,9 @@ use Rattle.h5w_model.specs.declared.cell.Key.{Key}
 use Rattle.h5w_model.specs.declared.root.Super.{Super}
 use Rattle.h5w_laws.specs.Several.{IsShare}
 use Rattle.h5w_laws.proofs.SeveralLemmas.{each_valid}
-use Rattle.h5w_visit_laws.specs.Ranges.{Among}
-use Rattle.h5w_visit_laws.proofs.HeaderLaws.{root_places}
-use Rattle.h5w_visit_laws.proofs.RangeLemmas.{among_left, among_right}
+use Rattle.h5w_step_laws.specs.Ranges.{Among}
+use Rattle.h5w_step_laws.proofs.HeaderLaws.{root_places}
+use Rattle.h5w_step_laws.proofs.RangeLemmas.{among_left, among_right}
 use Rattle.h5w_space.specs.Space.{Space}
 use Rattle.h5w_step_laws.specs.Logs.{image_now}
 use Rattle.h5w_step_laws.specs.Plans.{Plan}
@@ -29,7 +29,7 @@ use Rattle.h5w_step_laws.proofs.MomentLemmas.{in_root}
 use Rattle.h5w_step_laws.proofs.PartLemmas.{apart_sym, disjoint_apart}
 use Rattle.h5w_flush_laws.specs.Knowledge.{KnownHeld}
 use Rattle.h5w_flush_laws.specs.Spaces.{AllLive}
-use Rattle.h5w_header_laws.specs.Files.{chunk_0}
+use Rattle.h5w_step_laws.specs.Files.{chunk_0}
 use Rattle.h5w_index.specs.Views.{IndexView, address_in, an_array, a_tree}
 use Rattle.h5w_several_laws.specs.Beside.{own_of}
 use Rattle.h5w_several_laws.specs.Turns.{AreKnown, AreOff, Entry, IsOff, IsOne, all_then, then_as}

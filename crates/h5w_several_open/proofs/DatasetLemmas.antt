@@ -12,10 +12,10 @@ use Rattle.h5w_laws.specs.Ranges.{AreApart as IsApartFrom, AllApart as NoneMeet}
 use Rattle.h5w_laws.proofs.AnswerLemmas.{same_ok}
 use Rattle.h5w_laws.proofs.ResultLemmas.{and_then_from}
 use Rattle.h5w_laws.proofs.SeveralLemmas.{all_ranges, flat_ranges}
-use Rattle.h5w_visit_laws.specs.Ranges.{Among, AreApart as IsOffRange}
-use Rattle.h5w_visit_laws.proofs.RangeLemmas.{among_left, among_right}
-use Rattle.h5w_visit_laws.proofs.HeaderVisits.{ranges_ok, used_blocks, used_of}
-use Rattle.h5w_visit_laws.proofs.HeaderLaws.{RootParts, root_parts}
+use Rattle.h5w_step_laws.specs.Ranges.{Among, AreApart as IsOffRange}
+use Rattle.h5w_step_laws.proofs.RangeLemmas.{among_left, among_right}
+use Rattle.h5w_step_laws.proofs.HeaderVisits.{ranges_ok, used_blocks, used_of}
+use Rattle.h5w_step_laws.proofs.HeaderLaws.{RootParts, root_parts}
 use Rattle.h5w_space.specs.Space.{Space}
 use Rattle.h5w_step_laws.specs.Steps.{OffAll}
 use Rattle.h5w_step_laws.proofs.PartLemmas.{apart_sym}

@@ -1,9 +1,9 @@
 pub mod DatasetLemmas
-pub mod OpenLemmas
+mod OpenLemmas
 pub mod BeginLemmas
 pub mod StandLemmas
-pub mod SessionLemmas
-pub mod BegunLemmas
+mod SessionLemmas
+mod BegunLemmas
 pub mod TakeAnswers
 pub mod TakenLemmas
 pub mod AloneLemmas

@@ -7,7 +7,7 @@ use Rattle.h5w_model.specs.Relations.{AllPaired}
 use Rattle.h5w_model.specs.Several.{Begun}
 use Rattle.h5w_model.specs.Tables.{Reads}
 use Rattle.h5w_model.specs.declared.root.Super.{Super}
-use Rattle.h5w_visit_laws.specs.Ranges.{Among}
+use Rattle.h5w_step_laws.specs.Ranges.{Among}
 use Rattle.h5w_step_laws.specs.Plans.{Plan}
 use Rattle.h5w_step_laws.specs.Sessions.{Runs}
 use Rattle.h5w_several_laws.specs.Turns.{AreKnown, AreOff, Entry, all_then, then_as}

@@ -1,8 +1,8 @@
 pub mod PartLemmas
-pub mod TurnLemmas
-pub mod ShownLemmas
+mod TurnLemmas
+mod ShownLemmas
 pub mod EndLemmas
-pub mod FlowLemmas
-pub mod FullLemmas
-pub mod CountedLemmas
-pub mod StandLemmas
+mod FlowLemmas
+mod FullLemmas
+mod CountedLemmas
+mod StandLemmas

@@ -219,6 +219,28 @@ impl SeveralWriter {
         self.places.end()
     }
 
+    /// How many bytes the file may have at most.
+    pub fn limit(&self) -> u64
+        ensures { result ≡ self.now.places.limit }
+    {
+        self.limit
+    }
+
+    /// The most bytes of dataset `d` that may wait unwritten after an append.
+    pub fn budget(&self, d: usize) -> u64
+        requires { d < length self.now.parts }
+        ensures { (s : Session) → slice_get self.now.parts d ≡ Some s → result ≡ s.budget }
+    {
+        self.parts[d].budget()
+    }
+
+    /// Whether the session was stopped or closed, so that it takes no rows and plans nothing.
+    pub fn is_stopped(&self) -> bool
+        ensures { result ≡ self.now.stopped }
+    {
+        self.stopped
+    }
+
     /// What is retired stays out of use from now on: it is forgotten once the pieces of its flush are visible.
     pub fn keep_retired(&mut self)
         ensures session { self.new ≡ keeping self.old }

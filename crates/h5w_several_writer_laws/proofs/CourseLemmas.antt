@@ -9,7 +9,7 @@ use Rattle.h5w_model.specs.Relations.{AllPaired}
 use Rattle.h5w_model.specs.Several.{Begun, FileLog, log_of, pieces_in, plans_each, seen_by, up_to}
 use Rattle.h5w_model.specs.declared.piece.Write.{Write}
 use Rattle.h5w_model.specs.declared.root.Super.{Super}
-use Rattle.h5w_visit_laws.specs.Ranges.{Among}
+use Rattle.h5w_step_laws.specs.Ranges.{Among}
 use Rattle.h5w_space.specs.Space.{Space}
 use Rattle.h5w_step_laws.specs.Logs.{Goes, image_now}
 use Rattle.h5w_step_laws.specs.Moments.{Moment}

@@ -7,7 +7,7 @@ use Rattle.h5w_model.specs.Several.{Begun, FileLog, load_from, log_of}
 use Rattle.h5w_model.specs.Prefixed.{PrefixedEach}
 use Rattle.h5w_model.specs.declared.piece.Write.{Write}
 use Rattle.h5w_model.specs.declared.root.Super.{Super}
-use Rattle.h5w_visit_laws.specs.Ranges.{Among}
+use Rattle.h5w_step_laws.specs.Ranges.{Among}
 use Rattle.h5w_space.specs.Space.{Space}
 use Rattle.h5w_several_laws.specs.Dues.{Waits}
 use Rattle.h5w_several_laws.specs.Turns.{AreKnown, AreOff, Entry, IsOff, all_then, flushed as flushed_entry}

@@ -1,21 +1,21 @@
 pub mod SeenLemmas
 pub mod SightLemmas
 pub mod ValidLemmas
-pub mod PassedLemmas
+mod PassedLemmas
 pub mod RunLemmas
-pub mod AddressedLemmas
+mod AddressedLemmas
 pub mod PastLemmas
 pub mod TurnPartLemmas
 pub mod FoldPartLemmas
-pub mod ValidFlushLemmas
+mod ValidFlushLemmas
 pub mod CourseLemmas
 pub mod FlushAllLemmas
-pub mod RunTellLemmas
+mod RunTellLemmas
 pub mod GiveLemmas
 pub mod ShownLemmas
-pub mod ShownAllLemmas
-pub mod AppendAllLemmas
-pub mod EndLemmas
+mod ShownAllLemmas
+mod AppendAllLemmas
+mod EndLemmas
 pub mod TogetherLemmas
 pub mod CallLemmas
 pub mod BoundLemmas

@@ -5,8 +5,8 @@ use Rattle.h5w_model.specs.Images.{apply, image}
 use Rattle.h5w_model.specs.Findings.{Used}
 use Rattle.h5w_model.specs.declared.root.Super.{Super}
 use Rattle.h5w_model.specs.declared.piece.Write.{Write}
-use Rattle.h5w_visit_laws.specs.Ranges.{Among, AllAmong}
-use Rattle.h5w_visit_laws.proofs.RangeLemmas.{among_left, among_right}
+use Rattle.h5w_step_laws.specs.Ranges.{Among, AllAmong}
+use Rattle.h5w_step_laws.proofs.RangeLemmas.{among_left, among_right}
 use Rattle.h5w_space.specs.Space.{Space}
 use Rattle.h5w_step_laws.specs.Moments.{Moment, Represents}
 use Rattle.h5w_step_laws.specs.Plans.{Flush, Plan}

@@ -8,8 +8,8 @@ use Rattle.h5w_model.specs.Several.{Begun, FileLog, shows_all}
 use Rattle.h5w_model.specs.declared.cell.Key.{Key}
 use Rattle.h5w_model.specs.declared.piece.Write.{Write}
 use Rattle.h5w_model.specs.declared.root.Super.{Super}
-use Rattle.h5w_visit_laws.specs.Ranges.{Among}
-use Rattle.h5w_visit_laws.proofs.RangeLemmas.{among_left}
+use Rattle.h5w_step_laws.specs.Ranges.{Among}
+use Rattle.h5w_step_laws.proofs.RangeLemmas.{among_left}
 use Rattle.h5w_space.specs.Space.{Space}
 use Rattle.h5w_step_laws.specs.Moments.{Moment, Represents}
 use Rattle.h5w_step_laws.specs.Logs.{image_now}

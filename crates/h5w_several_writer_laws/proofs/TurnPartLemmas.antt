@@ -12,9 +12,9 @@ use Rattle.h5w_model.specs.declared.piece.Write.{Write}
 use Rattle.h5w_model.specs.declared.root.Super.{Super}
 use Rattle.h5w_model.proofs.ImageLemmas.{image-append}
 use Rattle.std.proofs.lemmas.List.{length_push}
-use Rattle.h5w_header_laws.specs.Files.{commit_at}
-use Rattle.h5w_visit_laws.specs.Ranges.{Among, AllAmong, AreApart}
-use Rattle.h5w_visit_laws.proofs.RangeLemmas.{among_left, among_right, among_split}
+use Rattle.h5w_step_laws.specs.Files.{commit_at}
+use Rattle.h5w_step_laws.specs.Ranges.{Among, AllAmong, AreApart}
+use Rattle.h5w_step_laws.proofs.RangeLemmas.{among_left, among_right, among_split}
 use Rattle.h5w_space.specs.Space.{Space}
 use Rattle.h5w_step_laws.specs.Moments.{Moment, Represents, reading_of}
 use Rattle.h5w_step_laws.specs.Steps.{OffAll}

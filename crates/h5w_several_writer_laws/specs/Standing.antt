@@ -10,7 +10,7 @@ use Rattle.h5w_model.specs.Superblock.{super_at}
 use Rattle.h5w_model.specs.Tables.{Reading, Shows, format_limits}
 use Rattle.h5w_model.specs.declared.piece.Write.{Write}
 use Rattle.h5w_model.specs.declared.root.Super.{Super}
-use Rattle.h5w_visit_laws.specs.Ranges.{Among}
+use Rattle.h5w_step_laws.specs.Ranges.{Among}
 use Rattle.h5w_space.specs.Space.{Space}
 use Rattle.h5w_step_laws.specs.Moments.{Moment, Represents, reading_of}
 use Rattle.h5w_step_laws.specs.Logs.{image_now}

@@ -19,15 +19,15 @@ use Rattle.h5w_model.proofs.HeaderRoundTrip.{messages_at-written}
 use Rattle.h5w_model.proofs.ImageLemmas.{Holds-rest}
 use Rattle.h5w_laws.proofs.PrefixLemmas.{one_prefix, root_view_found}
 use Rattle.h5w_laws.proofs.ResultLemmas.{choice_from, choice_ok}
-use Rattle.h5w_visit_laws.specs.Ranges.{block_at}
-use Rattle.h5w_visit_laws.proofs.HeaderLaws.{dataset_parts, root_looks, root_parts}
-use Rattle.h5w_visit_laws.proofs.HeaderVisits.{used_of, view_whole}
+use Rattle.h5w_step_laws.specs.Ranges.{block_at}
+use Rattle.h5w_step_laws.proofs.HeaderLaws.{dataset_parts, root_looks, root_parts}
+use Rattle.h5w_step_laws.proofs.HeaderVisits.{used_of, view_whole}
 use Rattle.h5w_step_laws.specs.Moments.{Moment, Represents, reading_of}
 use Rattle.h5w_step_laws.proofs.MomentLemmas.{root_at}
-use Rattle.h5w_header_laws.specs.Files.{chunk_0}
-use Rattle.h5w_header_laws.specs.Spelled.{IsSpellable, spelled_header, spelled_messages}
-use Rattle.h5w_header_laws.proofs.ImageLemmas.{HeaderRead, header_read}
-use Rattle.h5w_header_laws.proofs.SpelledLemmas.{spelled_read, spelled_stands}
+use Rattle.h5w_step_laws.specs.Files.{chunk_0}
+use Rattle.h5w_step_laws.specs.Spelled.{IsSpellable, spelled_header, spelled_messages}
+use Rattle.h5w_step_laws.proofs.ImageLemmas.{HeaderRead, header_read}
+use Rattle.h5w_step_laws.proofs.SpelledLemmas.{spelled_read, spelled_stands}
 use Rattle.h5w_headers.specs.Walks.{dataset_header_for, from_chunk_0_for, known_by, root_header_for, walk_for}
 use Rattle.h5w_creation_laws.specs.CreatedFiles.{CreatedFile, IsCreatable, created_moment, created_writes, header_block, header_place, index_blocks, root_block, root_len, root_messages, root_place, super_of}
 use Rattle.h5w_creation_laws.proofs.CreatedLaws.{created_new, created_sizes, front_blocks}

@@ -11,10 +11,10 @@ use Rattle.h5w_model.specs.Findings.{chunk_bytes}
 use Rattle.h5w_model.specs.Tables.{format_limits, limit_of, needed}
 use Rattle.h5w_model.specs.declared.root.Super.{Super}
 use Rattle.h5w_model.specs.declared.refusal.ReadError.TheVariants as read_errors
-use Rattle.h5w_visit_laws.proofs.HeaderLaws.{DatasetParts, RootParts, dataset_parts, root_parts}
+use Rattle.h5w_step_laws.proofs.HeaderLaws.{DatasetParts, RootParts, dataset_parts, root_parts}
 use Rattle.h5w_step_laws.specs.Moments.{Moment, Represents, reading_of}
 use Rattle.h5w_step_laws.proofs.MomentLemmas.{root_at, super_parts}
-use Rattle.h5w_header_laws.proofs.DescribedLemmas.{layout_of}
+use Rattle.h5w_step_laws.proofs.HeaderDescribedLemmas.{layout_of}
 use Rattle.h5w_headers.specs.Walks.{dataset_header_for, root_header_for}
 use Rattle.h5w_headers.proofs.RanLemmas.{step_ok}
 use Rattle.h5w_opening.specs.Openings.{DatasetHeaderFields, Opened, chunk_0_len, closed_super, dataset_found, in_chunk_0, is_open, known, looked_for, most_chunk_bytes, place_found, refused_dataset, super_found}

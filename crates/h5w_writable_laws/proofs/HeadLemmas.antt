@@ -5,8 +5,8 @@ use Rattle.h5w_model.specs.Numbers.{range}
 use Rattle.h5w_model.specs.Headers.{continuation_kind, data_size, msg_at, msgs_in}
 use Rattle.h5w_model.specs.declared.message.Msg.{Msg}
 use Rattle.h5w_model.proofs.ImageLemmas.{get_or-range, length-range}
-use Rattle.h5w_header_laws.proofs.NumberLemmas.{part_of, rest_of}
-use Rattle.h5w_header_laws.proofs.WalkLemmas.{IsAmong, SameHead, Stepped, all_from, gap, no_fuel, one, same_head, same_messages, stepped}
+use Rattle.h5w_step_laws.proofs.NumberLemmas.{part_of, rest_of}
+use Rattle.h5w_step_laws.proofs.WalkLemmas.{IsAmong, SameHead, Stepped, all_from, gap, no_fuel, one, same_head, same_messages, stepped}
 
 -- ---- Bytes
 

@@ -8,12 +8,12 @@ use Rattle.h5w_model.specs.Datasets.{HeaderFields, dataset_from, dataset_message
 use Rattle.h5w_model.specs.Prefixed.{Stays, root_address}
 use Rattle.h5w_model.specs.Tables.{format_limits}
 use Rattle.h5w_model.specs.declared.refusal.ReadError.TheVariants as read_errors
-use Rattle.h5w_visit_laws.proofs.HeaderLaws.{DatasetParts, dataset_parts}
-use Rattle.h5w_visit_laws.proofs.HeaderVisits.{same_header}
-use Rattle.h5w_visit_laws.proofs.VisitTells.{visits_next}
+use Rattle.h5w_step_laws.proofs.HeaderLaws.{DatasetParts, dataset_parts}
+use Rattle.h5w_step_laws.proofs.HeaderVisits.{same_header}
+use Rattle.h5w_step_laws.proofs.VisitTells.{visits_next}
 use Rattle.h5w_step_laws.specs.Moments.{Moment, Represents, reading_of}
-use Rattle.h5w_header_laws.specs.Files.{LayoutInChunk0, chunk_0}
-use Rattle.h5w_header_laws.proofs.ImageLemmas.{HeaderRead, header_read}
+use Rattle.h5w_step_laws.specs.Files.{LayoutInChunk0, chunk_0}
+use Rattle.h5w_step_laws.proofs.ImageLemmas.{HeaderRead, header_read}
 use Rattle.h5w_headers.specs.Walks.{dataset_header_for, root_header_for}
 use Rattle.h5w_opening.proofs.WritingLemmas.{alike_ok, dataset_alike, root_alike}
 use Rattle.h5w_writable_laws.specs.Writable.{CanBeWritten, WritableStays}

@@ -16,12 +16,12 @@ use Rattle.h5w_model.specs.declared.refusal.ReadError.TheVariants as read_errors
 use Rattle.h5w_model.proofs.HeaderLemmas.{IsHeader, messages_at-ok}
 use Rattle.h5w_laws.proofs.PrefixLemmas.{begins, one_prefix, prefix_front, prefix_whole}
 use Rattle.h5w_laws.proofs.ResultLemmas.{choice_from, choice_ok}
-use Rattle.h5w_visit_laws.proofs.HeaderVisits.{choice_looks}
-use Rattle.h5w_header_laws.specs.Files.{chunk_0}
-use Rattle.h5w_header_laws.proofs.ChunkLemmas.{data_is, found_tells, of_kind}
-use Rattle.h5w_header_laws.proofs.CommitLaws.{index_place_is, the_data}
-use Rattle.h5w_header_laws.proofs.ImageLemmas.{HeaderRead, walk_from}
-use Rattle.h5w_header_laws.proofs.WalkLemmas.{AllFrom, IsAmong, all_from}
+use Rattle.h5w_step_laws.proofs.HeaderVisits.{choice_looks}
+use Rattle.h5w_step_laws.specs.Files.{chunk_0}
+use Rattle.h5w_step_laws.proofs.ChunkLemmas.{data_is, found_tells, of_kind}
+use Rattle.h5w_step_laws.proofs.CommitLaws.{index_place_is, the_data}
+use Rattle.h5w_step_laws.proofs.ImageLemmas.{HeaderRead, walk_from}
+use Rattle.h5w_step_laws.proofs.WalkLemmas.{AllFrom, IsAmong, all_from}
 use Rattle.h5w_headers.specs.Walks.{dataset_header_for, from_chunk_0_for}
 use Rattle.h5w_writable_laws.proofs.HeadLemmas.{AreLeft, AreOne, AreSame, apart_messages, range_same, same_kept}
 use Rattle.h5w_writable_laws.proofs.KeptWalks.{Kept, chunk_kept}

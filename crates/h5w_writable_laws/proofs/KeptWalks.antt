@@ -16,9 +16,9 @@ use Rattle.h5w_model.specs.declared.refusal.ReadError.TheVariants.{Header}
 use Rattle.h5w_model.proofs.HeaderRoundTrip.{kind_of}
 use Rattle.h5w_laws.proofs.PrefixLemmas.{one_prefix}
 use Rattle.h5w_laws.proofs.ResultLemmas.{choice_from, choice_ok, fails, refused_ok, then_from, then_ok}
-use Rattle.h5w_visit_laws.proofs.HeaderVisits.{choice_looks, same_header}
+use Rattle.h5w_step_laws.proofs.HeaderVisits.{choice_looks, same_header}
 use Rattle.h5w_headers.specs.Walks.{block_for, from_chunk_0_for, known_by, root_header_for, walk_for}
-use Rattle.h5w_header_laws.proofs.WalkLemmas.{same_messages}
+use Rattle.h5w_step_laws.proofs.WalkLemmas.{same_messages}
 use Rattle.h5w_writable_laws.proofs.HeadLemmas.{AreSame}
 
 abbrev Answer : Type 0

@@ -13,7 +13,7 @@ use Rattle.h5w_model.specs.declared.refusal.HeaderError.TheVariants as header_er
 use Rattle.h5w_model.specs.declared.refusal.ReadError.{ReadError}
 use Rattle.h5w_model.specs.declared.refusal.ReadError.TheVariants.{Header}
 use Rattle.h5w_laws.proofs.ResultLemmas.{choice_from, choice_ok, fails, ok_err, ok_is, refused_ok, then_from, then_ok}
-use Rattle.h5w_visit_laws.proofs.HeaderVisits.{same_header}
+use Rattle.h5w_step_laws.proofs.HeaderVisits.{same_header}
 use Rattle.h5w_headers.specs.Walks.{block_for, from_chunk_0_for, known_by, root_header_for, walk_for}
 
 abbrev Answer : Type 0

@@ -1,8 +1,8 @@
-pub mod HeadLemmas
-pub mod KeptWalks
-pub mod KeptHeaders
+mod HeadLemmas
+mod KeptWalks
+mod KeptHeaders
 pub mod KeptFiles
 pub mod FindsLemmas
 pub mod CreatedLemmas
-pub mod KnownWalks
+mod KnownWalks
 pub mod SeveralLemmas

@@ -10,7 +10,7 @@ use Rattle.h5w_model.specs.declared.root.Super.{Super}
 use Rattle.h5w_model.proofs.ImageLemmas.{Holds-front, Holds-rest}
 use Rattle.h5w_step_laws.specs.Moments.{Represents, reading_of}
 use Rattle.h5w_step_laws.proofs.MomentLemmas.{root_at}
-use Rattle.h5w_header_laws.specs.Spelled.{spelled_header}
+use Rattle.h5w_step_laws.specs.Spelled.{spelled_header}
 use Rattle.h5w_headers.specs.Walks.{root_header_for}
 use Rattle.h5w_creation_laws.specs.CreatedFiles.{CreatedFile, IsCreatable, root_place}
 use Rattle.h5w_several_creation_laws.specs.Links.{link_messages, linking}

@@ -8,7 +8,7 @@ use Rattle.h5w_model.specs.Findings.{Used, chunk_bytes}
 use Rattle.h5w_model.specs.Tables.{Reading}
 use Rattle.h5w_model.specs.Prefixed.{Stays, root_address}
 use Rattle.h5w_model.specs.declared.root.Super.{Super}
-use Rattle.h5w_header_laws.specs.Files.{LayoutInChunk0}
+use Rattle.h5w_step_laws.specs.Files.{LayoutInChunk0}
 use Rattle.h5w_step_laws.specs.Moments.{Moment, Represents, reading_of}
 use Rattle.h5w_creation_laws.specs.CreatedFiles.{CreatedFile, IsCreatable, created_moment, created_writes}
 use Rattle.h5w_several_creation_laws.specs.SeveralFiles as several

@@ -6,7 +6,7 @@ use Rattle.std.proofs.Math.Nat.{mul-le-mul_right}
 use Rattle.h5w_model.specs.Logs.{Log, and_now, appends, load}
 use Rattle.h5w_model.specs.Messages.{IsIntType}
 use Rattle.h5w_model.specs.Tables.{chunks_across, format_limits, limit_of, needed}
-use Rattle.h5w_visit_laws.specs.Needed.{AreFew}
+use Rattle.h5w_step_laws.specs.Needed.{AreFew}
 use Rattle.h5w_writer.specs.Early.{WritesEarly, WrittenEarly, dirty_of}
 use Rattle.h5w_writer.specs.Past.{Past}
 use Rattle.h5w_writer.specs.Sessions.{AddsValues, AllEndBy, AreRows, IsSession, Session, cutting_of, rows_of, with_rows, with_values}

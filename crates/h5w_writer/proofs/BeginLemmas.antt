@@ -7,7 +7,7 @@ use Rattle.h5w_model.specs.Datasets.{root_header, root_view}
 use Rattle.h5w_model.specs.Tables.{Reading, Shows, format_limits}
 use Rattle.h5w_model.specs.Findings.{Used}
 use Rattle.h5w_model.specs.Prefixed.{Held, IsPosition, Keeps, continuation_blocks, image_at, root_address}
-use Rattle.h5w_visit_laws.specs.Ranges.{visits_of}
+use Rattle.h5w_step_laws.specs.Ranges.{visits_of}
 use Rattle.h5w_step_laws.specs.Moments.{reading_of}
 use Rattle.h5w_step_laws.proofs.FoundLemmas.{moment_shows}
 use Rattle.h5w_step_laws.proofs.MomentLemmas.{header_of, root_at}

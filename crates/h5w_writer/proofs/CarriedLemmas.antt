@@ -19,8 +19,8 @@ use Rattle.h5w_chunks.proofs.Geometry.{lt_up}
 use Rattle.h5w_flush_laws.specs.EarlyRows.{IsEarlyPlace}
 use Rattle.h5w_flush_laws.specs.Parts.{AreEnded}
 use Rattle.h5w_model.proofs.HeaderLemmas.{messages_at-ok}
-use Rattle.h5w_header_laws.proofs.CommitLaws.{rows_place_is, rows_there}
-use Rattle.h5w_visit_laws.specs.Ranges as ranges
+use Rattle.h5w_step_laws.proofs.CommitLaws.{rows_place_is, rows_there}
+use Rattle.h5w_step_laws.specs.Ranges as ranges
 use Rattle.h5w_index.specs.Views.{IndexView, TakesKey, address_in}
 use Rattle.h5w_index.specs.Blocks.{has_no_block}
 use Rattle.h5w_index.specs.Steps.{IsPlan}

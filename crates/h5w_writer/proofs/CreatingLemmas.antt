@@ -20,9 +20,9 @@ use Rattle.h5w_model.specs.Logs.{div_up}
 use Rattle.h5w_model.specs.declared.cell.IndexKind.{IndexKind}
 use Rattle.h5w_model.specs.declared.cell.IndexKind.TheVariants.{Array, Tree}
 use Rattle.h5w_model.proofs.ImageLemmas.{Holds-rest}
-use Rattle.h5w_header_laws.specs.Files.{chunk_0}
-use Rattle.h5w_header_laws.specs.Spelled.{spelled_header}
-use Rattle.h5w_header_laws.proofs.SpelledLemmas.{spelled_stands}
+use Rattle.h5w_step_laws.specs.Files.{chunk_0}
+use Rattle.h5w_step_laws.specs.Spelled.{spelled_header}
+use Rattle.h5w_step_laws.proofs.SpelledLemmas.{spelled_stands}
 use Rattle.h5w_array_laws.proofs.CreatedLemmas.{created_starts}
 use Rattle.h5w_index.specs.Views.{IndexView, IsClean, address_in}
 use Rattle.h5w_index.specs.Flushes.{Begins}
@@ -40,7 +40,7 @@ use Rattle.h5w_writer.specs.Sessions.{IsRoomy, Session, AfterPiece, AllEndBy, Se
 use Rattle.h5w_writer.specs.Creations.{IsIndexOf, IsLimit, created, log_of, places_to}
 use Rattle.h5w_writer.specs.Stands.{Creating, Running, Stands}
 use Rattle.h5w_writer.proofs.PastLemmas.{one_each, past_begins, past_same, some_blocks}
-use Rattle.h5w_visit_laws.specs.Needed.{AreFew}
+use Rattle.h5w_step_laws.specs.Needed.{AreFew}
 use Rattle.h5w_writer.proofs.EarlyLemmas.{nothing_early}
 use Rattle.h5w_writer.proofs.StandLemmas.{goes_rows, last_running, last_unplanned, left_pending, more_running, settled, with_pending, some_is}
 use Rattle.h5w_writer.proofs.StateLemmas.{up_few}

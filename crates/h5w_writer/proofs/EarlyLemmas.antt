@@ -12,8 +12,8 @@ use Rattle.h5w_model.specs.declared.cell.Key.{Key}
 use Rattle.h5w_model.specs.declared.piece.Write.{Write}
 use Rattle.h5w_model.proofs.ImageLemmas.{At-apply_missed}
 use Rattle.h5w_space.specs.Space.{Space}
-use Rattle.h5w_visit_laws.specs.Needed.{AreFew}
-use Rattle.h5w_visit_laws.specs.Ranges.{AreApart, chunk_at}
+use Rattle.h5w_step_laws.specs.Needed.{AreFew}
+use Rattle.h5w_step_laws.specs.Ranges.{AreApart, chunk_at}
 use Rattle.h5w_chunks.specs.Grids.{cells_of}
 use Rattle.h5w_chunks.specs.Shares.{chunk_number, touched}
 use Rattle.h5w_chunks.specs.Rows.{IsChunkOf}

@@ -13,16 +13,16 @@ use Rattle.h5w_model.specs.declared.cell.Key.{Key}
 use Rattle.h5w_model.specs.declared.piece.Write.{Write}
 use Rattle.std.proofs.lemmas.Bool.{cond-true, lt-ltb}
 use Rattle.h5w_types.proofs.RunLemmas.{length-run_bytes}
-use Rattle.h5w_visit_laws.specs.Needed.{AreFew}
-use Rattle.h5w_visit_laws.specs.Ranges.{Among, MissesBlocks}
-use Rattle.h5w_visit_laws.proofs.RangeLemmas.{among_left, among_right}
+use Rattle.h5w_step_laws.specs.Needed.{AreFew}
+use Rattle.h5w_step_laws.specs.Ranges.{Among, MissesBlocks}
+use Rattle.h5w_step_laws.proofs.RangeLemmas.{among_left, among_right}
 use Rattle.h5w_space.specs.Space.{Space}
 use Rattle.h5w_chunks.specs.Grids.{FitsType, cells_of, fill_cell}
 use Rattle.h5w_chunks.specs.Shares.{new_writes, touched}
 use Rattle.h5w_chunks.specs.Rows.{ChunksApart, RowsWritten}
 use Rattle.h5w_chunks.specs.Early.{RowsStand}
 use Rattle.h5w_chunks.specs.declared.grid.ChunkPlace.{ChunkPlace}
-use Rattle.h5w_header_laws.specs.Files.{chunk_0}
+use Rattle.h5w_step_laws.specs.Files.{chunk_0}
 use Rattle.h5w_step_laws.specs.Moments.{Moment, reading_of}
 use Rattle.h5w_step_laws.specs.Logs.{image_now}
 use Rattle.h5w_step_laws.specs.Sessions.{Runs}

@@ -7,7 +7,7 @@ use Rattle.h5w_model.specs.Datasets.{Described}
 use Rattle.h5w_model.specs.Logs.{Log, and_now, load, plans}
 use Rattle.h5w_model.specs.declared.root.Super.{Super}
 use Rattle.h5w_space.specs.declared.Full.{Full}
-use Rattle.h5w_header_laws.specs.Files.{with_index}
+use Rattle.h5w_step_laws.specs.Files.{with_index}
 use Rattle.h5w_index.specs.Views.{header_place}
 use Rattle.h5w_writer.specs.Sessions.{AllEndBy, IsNamed, IsSession, Session, TakesRows, cutting_of, row_bytes, rows_of, with_rows}
 use Rattle.h5w_writer.specs.Loads.{NoPlace}

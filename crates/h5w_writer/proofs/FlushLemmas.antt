@@ -14,13 +14,13 @@ use Rattle.h5w_model.specs.Findings.{Used, chunk_bytes}
 use Rattle.h5w_model.specs.declared.cell.Key.{Key}
 use Rattle.h5w_model.specs.declared.piece.Write.{Write}
 use Rattle.h5w_model.specs.declared.root.Super.{Super}
-use Rattle.h5w_visit_laws.specs.Needed.{AreFew}
+use Rattle.h5w_step_laws.specs.Needed.{AreFew}
 use Rattle.h5w_chunks.specs.Grids.{FitsType, IsCut, cells_of, fill_cell}
 use Rattle.h5w_chunks.specs.Shares.{touched}
 use Rattle.h5w_chunks.specs.Rows.{ChunksApart}
 use Rattle.h5w_chunks.specs.Early.{RowsStand}
 use Rattle.h5w_chunks.specs.declared.grid.ChunkPlace.{ChunkPlace}
-use Rattle.h5w_header_laws.specs.Files.{chunk_0, commit_at}
+use Rattle.h5w_step_laws.specs.Files.{chunk_0, commit_at}
 use Rattle.h5w_space.specs.Space.{Space}
 use Rattle.h5w_step_laws.specs.Moments.{Moment}
 use Rattle.h5w_step_laws.specs.Logs.{image_now}

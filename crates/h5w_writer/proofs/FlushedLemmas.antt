@@ -13,8 +13,8 @@ use Rattle.h5w_model.specs.Findings.{Used}
 use Rattle.h5w_model.specs.declared.cell.Key.{Key}
 use Rattle.h5w_model.specs.declared.piece.Write.{Write}
 use Rattle.h5w_model.proofs.ImageLemmas.{AllSized-append}
-use Rattle.h5w_visit_laws.specs.Ranges as ranges
-use Rattle.h5w_visit_laws.proofs.RangeLemmas.{ends_later}
+use Rattle.h5w_step_laws.specs.Ranges as ranges
+use Rattle.h5w_step_laws.proofs.RangeLemmas.{ends_later}
 use Rattle.h5w_space.specs.Space.{Space}
 use Rattle.h5w_chunks.specs.Grids.{chunk_len}
 use Rattle.h5w_chunks.specs.Shares.{first_line, new_writes}

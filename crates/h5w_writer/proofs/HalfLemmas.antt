@@ -9,8 +9,8 @@ use Rattle.h5w_model.specs.Findings.{Used}
 use Rattle.h5w_model.specs.declared.cell.Key.{Key}
 use Rattle.h5w_model.specs.declared.root.Super.{Super}
 use Rattle.h5w_model.specs.declared.piece.Write.{Write}
-use Rattle.h5w_visit_laws.specs.Ranges as ranges
-use Rattle.h5w_visit_laws.proofs.RangeLemmas.{ends_later}
+use Rattle.h5w_step_laws.specs.Ranges as ranges
+use Rattle.h5w_step_laws.proofs.RangeLemmas.{ends_later}
 use Rattle.h5w_space.specs.Space.{Space}
 use Rattle.h5w_chunks.specs.Grids.{fill_cell}
 use Rattle.h5w_chunks.specs.Rows.{RowsWritten}
@@ -24,8 +24,8 @@ use Rattle.h5w_index.specs.Marks.{IsRaised}
 use Rattle.h5w_index.specs.Steps.{IsBegun, copy_pieces, in_place_pieces}
 use Rattle.h5w_index.specs.Naming.{AreNamed}
 use Rattle.h5w_index.specs.Placing.{AreInside, IsPartly}
-use Rattle.h5w_index.specs.declared.begun.Begun.{Begun}
-use Rattle.h5w_index.specs.declared.begun.Begun.TheVariants.{Array, Tree}
+use Rattle.h5w_index.specs.declared.flush.IndexFlush.{IndexFlush}
+use Rattle.h5w_index.specs.declared.flush.IndexFlush.TheVariants.{Array, Tree}
 use Rattle.h5w_index.proofs.ArrayBoundLemmas.{moves_raised}
 use Rattle.h5w_index.proofs.TreeBoundLemmas.{nodes_raised}
 use Rattle.h5w_index.proofs.RaisedLemmas.{raised_none, retired_raised}
@@ -53,7 +53,7 @@ further s t most r = record { rises = r.rises; limit = r.limit; fits = omega (ar
 pub further_on : (s t u : Space) → IsFurther s t → IsFurther t u → IsFurther s u
 further_on s t u a b = record { rises = omega (arith, a.rises, b.rises); limit = b.limit ∙ a.limit; fits = omega (arith, a.fits, b.fits, a.limit) }
 
-pub begun_further : (v : IndexView) (s : Space) (b : Begun) (t : Space) → IsSound v → IsBegun v s b t → IsFurther s t
+pub begun_further : (v : IndexView) (s : Space) (b : IndexFlush) (t : Space) → IsSound v → IsBegun v s b t → IsFurther s t
 begun_further (an_array v) s (Array b) t is x =
     let moved = further s x.taken.taken _ (moves_raised v is s b.moves x.taken.taken x.taken.moves) in
     let roomy = further x.taken.taken x.roomy 0 (raised_none x.taken.taken x.roomy (ap (λ (u : Space). u.end) x.taken.roomy) (ap (λ (u : Space). u.limit) x.taken.roomy)) in

@@ -9,7 +9,7 @@ use Rattle.h5w_model.specs.declared.piece.Write.{Write}
 use Rattle.h5w_space.specs.Space.{Space, IsLive, Apart}
 use Rattle.h5w_space.specs.declared.Extent.{Extent}
 use Rattle.h5w_step_laws.specs.Moments.{Moment}
-use Rattle.h5w_visit_laws.specs.Ranges.{MissesBlocks}
+use Rattle.h5w_step_laws.specs.Ranges.{MissesBlocks}
 use Rattle.h5w_array_laws.specs.Parts.{header}
 use Rattle.h5w_flush_laws.specs.Knowledge.{Knows}
 use Rattle.h5w_index.specs.Views.{IndexView, IsSound, an_array, a_tree, header_place}

@@ -1,5 +1,5 @@
-pub mod SessionFields
-pub mod BacklogLemmas
+mod SessionFields
+mod BacklogLemmas
 pub mod StateLemmas
 pub mod AddressedLemmas
 pub mod IndexLemmas
@@ -11,42 +11,42 @@ pub mod SessionStarts
 pub mod TakingLemmas
 pub mod RootLooks
 pub mod BeginLemmas
-pub mod RestLemmas
+mod RestLemmas
 pub mod DatasetLemmas
 pub mod LawLemmas
-pub mod FindingLemmas
-pub mod ValueLemmas
-pub mod EarlyBytes
-pub mod EarlyRowLemmas
-pub mod PlaceLemmas
-pub mod AloneLemmas
-pub mod IndexStarts
+mod FindingLemmas
+mod ValueLemmas
+mod EarlyBytes
+mod EarlyRowLemmas
+mod PlaceLemmas
+mod AloneLemmas
+mod IndexStarts
 pub mod FlushLemmas
 pub mod FlushStands
-pub mod WritableLemmas
-pub mod PieceLemmas
-pub mod PlanLemmas
-pub mod FlushedLemmas
-pub mod PrepareLemmas
+mod WritableLemmas
+mod PieceLemmas
+mod PlanLemmas
+mod FlushedLemmas
+mod PrepareLemmas
 pub mod CarriedLemmas
 pub mod HalfLemmas
 pub mod StartKinds
-pub mod StartParts
-pub mod StartPlaces
+mod StartParts
+mod StartPlaces
 pub mod PlannedRows
 pub mod StartedLemmas
-pub mod StartingLemmas
-pub mod StartCarriedLemmas
+mod StartingLemmas
+mod StartCarriedLemmas
 pub mod NextLemmas
-pub mod ReachedLemmas
+mod ReachedLemmas
 pub mod LoadLemmas
 pub mod ToldLemmas
 pub mod LentLemmas
-pub mod PassedLemmas
+mod PassedLemmas
 pub mod EarlyStands
-pub mod EarlyLoads
-pub mod AppendStands
-pub mod EarlyCalls
+mod EarlyLoads
+mod AppendStands
+mod EarlyCalls
 pub mod HeaderAlone
 pub mod StartLoads
 pub mod HalfLoads

@@ -13,7 +13,7 @@ use Rattle.h5w_space.specs.declared.Full.{Full}
 use Rattle.h5w_cache.specs.Plans.{IsRefused}
 use Rattle.h5w_chunks.specs.Grids.{IsCut, chunk_len}
 use Rattle.h5w_chunks.proofs.Geometry.{lt_up}
-use Rattle.h5w_header_laws.specs.Files.{with_index}
+use Rattle.h5w_step_laws.specs.Files.{with_index}
 use Rattle.h5w_flush_laws.specs.Parts.{AreEnded}
 use Rattle.h5w_index.specs.Views.{IndexView}
 use Rattle.h5w_index.specs.Marks.{IsMarked, IsRaised}

@@ -14,7 +14,7 @@ use Rattle.h5w_step_laws.proofs.SessionLaws.{goes_runs, opened_goes}
 use Rattle.h5w_cache.specs.Stores.{times}
 use Rattle.h5w_chunks.specs.Shares.{first_line}
 use Rattle.h5w_chunks.specs.declared.grid.ChunkPlace.{ChunkPlace}
-use Rattle.h5w_visit_laws.specs.Needed.{AreFew}
+use Rattle.h5w_step_laws.specs.Needed.{AreFew}
 use Rattle.h5w_index.specs.Views.{IndexView, IsClean, IsReached, an_array, a_tree, address_in}
 use Rattle.h5w_index.specs.Flushes.{Rests}
 use Rattle.h5w_index.proofs.MarkLemmas.{mark_laws}

@@ -11,9 +11,9 @@ use Rattle.h5w_model.specs.declared.cell.Key.{Key}
 use Rattle.h5w_model.specs.declared.piece.Write.{Write}
 use Rattle.h5w_model.specs.declared.root.Super.{Super}
 use Rattle.h5w_model.proofs.SuperLemmas.{length-super_bytes}
-use Rattle.h5w_header_laws.specs.Files.{chunk_0}
-use Rattle.h5w_visit_laws.specs.Ranges.{Among, AreApart, MissesBlocks}
-use Rattle.h5w_visit_laws.proofs.RangeLemmas.{among_left, among_right, among_split}
+use Rattle.h5w_step_laws.specs.Files.{chunk_0}
+use Rattle.h5w_step_laws.specs.Ranges.{Among, AreApart, MissesBlocks}
+use Rattle.h5w_step_laws.proofs.RangeLemmas.{among_left, among_right, among_split}
 use Rattle.h5w_space.specs.Space.{Space, IsLive}
 use Rattle.h5w_space.specs.declared.Full.{Full}
 use Rattle.h5w_step_laws.specs.Moments.{Moment, Represents, all_used, front_of}

@@ -8,8 +8,8 @@ use Rattle.h5w_model.specs.declared.cell.Key.{Key}
 use Rattle.h5w_model.specs.declared.piece.Write.{Write}
 use Rattle.h5w_model.specs.declared.root.Super.{Super}
 use Rattle.h5w_model.proofs.ImageLemmas.{range-apply_missed}
-use Rattle.h5w_visit_laws.specs.Ranges.{Among, MissesBlocks, block_at}
-use Rattle.h5w_visit_laws.proofs.RangeLemmas.{among_left, among_right, among_split}
+use Rattle.h5w_step_laws.specs.Ranges.{Among, MissesBlocks, block_at}
+use Rattle.h5w_step_laws.proofs.RangeLemmas.{among_left, among_right, among_split}
 use Rattle.h5w_space.specs.Space.{Space}
 use Rattle.h5w_cache.specs.Plans.{bytes_in}
 use Rattle.h5w_cache.specs.StoreLaws.{Standing}
@@ -17,7 +17,7 @@ use Rattle.h5w_cache.specs.Stores.{Store, place_of}
 use Rattle.h5w_chunks.specs.Early.{RowsStand}
 use Rattle.h5w_chunks.specs.Grids.{cells_of}
 use Rattle.h5w_chunks.specs.declared.grid.ChunkPlace.{ChunkPlace}
-use Rattle.h5w_header_laws.specs.Files.{chunk_0}
+use Rattle.h5w_step_laws.specs.Files.{chunk_0}
 use Rattle.h5w_step_laws.specs.Moments.{Moment, Represents}
 use Rattle.h5w_step_laws.proofs.MomentLemmas.{inside}
 use Rattle.h5w_flush_laws.specs.Spaces.{AllLive}

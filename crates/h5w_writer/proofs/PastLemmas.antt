@@ -30,7 +30,7 @@ use Rattle.h5w_writer.specs.Past.{AllAddressed, HasCreated, HasOpened, IsCounted
 use Rattle.h5w_writer.specs.Reaches.{ReachedFrom}
 use Rattle.h5w_writer.specs.Sessions.{IsRoomy, Session, AllEndBy, cutting_of, with_rows, IsNamed}
 use Rattle.h5w_writer.proofs.AddressedLemmas.{shown_addressed, step_addressed}
-use Rattle.h5w_header_laws.specs.Files.{with_index}
+use Rattle.h5w_step_laws.specs.Files.{with_index}
 use Rattle.h5w_writer.proofs.StateLemmas.{up_some}
 
 -- ---- Lists of writes

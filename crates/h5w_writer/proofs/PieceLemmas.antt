@@ -3,7 +3,7 @@ use Rattle.std.proofs.Common.{◌≡◌, ℕ, zero, suc, ◌+◌, ◌*◌, ◌/�
 use Rattle.h5w_model.specs.Images.{AllSized, first_pieces, pieces}
 use Rattle.h5w_model.specs.declared.piece.Write.{Write}
 use Rattle.h5w_model.proofs.ImageLemmas.{AllSized-append, pieces-sized}
-use Rattle.h5w_visit_laws.specs.Ranges as ranges
+use Rattle.h5w_step_laws.specs.Ranges as ranges
 use Rattle.h5w_flush_laws.specs.Parts.{block_ranges, block_writes}
 use Rattle.h5w_chunks.specs.Rows.{AllWithin}
 use Rattle.h5w_chunks.specs.declared.grid.ChunkPlace.{ChunkPlace}

@@ -12,7 +12,7 @@ use Rattle.h5w_space.specs.Space.{Space}
 use Rattle.h5w_chunks.specs.Shares.{first_line, touched, touched_key}
 use Rattle.h5w_chunks.proofs.Geometry.{lt_up}
 use Rattle.h5w_chunks.proofs.KeyLemmas.{bands_between, line_chunks, some_keys}
-use Rattle.h5w_header_laws.specs.Files.{with_index}
+use Rattle.h5w_step_laws.specs.Files.{with_index}
 use Rattle.h5w_flush_laws.proofs.NewChunkLemmas.{touched_is}
 use Rattle.h5w_index.specs.Views.{IndexView, IsReached}
 use Rattle.h5w_index.proofs.PlacingLemmas.{chunk_there}

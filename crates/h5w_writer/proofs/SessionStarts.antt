@@ -8,10 +8,10 @@ use Rattle.h5w_model.specs.declared.cell.Key.{Key}
 use Rattle.h5w_model.specs.declared.cell.IndexKind.{IndexKind}
 use Rattle.h5w_model.specs.declared.cell.IndexKind.TheVariants.{Array, Tree}
 use Rattle.h5w_model.proofs.MessageLemmas.{length-shape_bytes, shape_rank}
-use Rattle.h5w_visit_laws.specs.Ranges.{AllEndBy as RangesEndBy, block_at}
-use Rattle.h5w_visit_laws.proofs.RangeLemmas.{ends_cons, ends_nil}
-use Rattle.h5w_header_laws.specs.Spelled.{spelled_header}
-use Rattle.h5w_header_laws.proofs.SpelledLemmas.{spelled_read}
+use Rattle.h5w_step_laws.specs.Ranges.{AllEndBy as RangesEndBy, block_at}
+use Rattle.h5w_step_laws.proofs.RangeLemmas.{ends_cons, ends_nil}
+use Rattle.h5w_step_laws.specs.Spelled.{spelled_header}
+use Rattle.h5w_step_laws.proofs.SpelledLemmas.{spelled_read}
 use Rattle.h5w_space.specs.Space.{Apart, extent}
 use Rattle.h5w_array_laws.specs.Parts.{index_block}
 use Rattle.h5w_array_laws.specs.ArrayStores.{header_place, place_at_part}

@@ -15,11 +15,11 @@ use Rattle.h5w_model.specs.declared.piece.Write.{Write}
 use Rattle.h5w_model.specs.declared.root.Super.{Super}
 use Rattle.h5w_model.proofs.SuperLemmas.{length-super_bytes}
 use Rattle.h5w_chunks.specs.Grids.{cells_of}
-use Rattle.h5w_header_laws.specs.Files.{chunk_0}
+use Rattle.h5w_step_laws.specs.Files.{chunk_0}
 use Rattle.h5w_space.specs.Space.{IsLive, Space}
 use Rattle.h5w_space.specs.declared.Extent.{Extent}
-use Rattle.h5w_visit_laws.specs.Ranges.{Among}
-use Rattle.h5w_visit_laws.proofs.RangeLemmas.{among_left, among_right}
+use Rattle.h5w_step_laws.specs.Ranges.{Among}
+use Rattle.h5w_step_laws.proofs.RangeLemmas.{among_left, among_right}
 use Rattle.h5w_step_laws.specs.Moments.{Moment}
 use Rattle.h5w_step_laws.specs.Steps.{Ends, ends}
 use Rattle.h5w_step_laws.specs.Logs.{Goes, image_now}

@@ -17,7 +17,7 @@ use Rattle.h5w_chunks.specs.Grids.{chunk_len, fill_cell}
 use Rattle.h5w_chunks.specs.Rows.{RowsWritten}
 use Rattle.h5w_chunks.specs.Shares.{first_line, touched, touched_key}
 use Rattle.h5w_chunks.specs.declared.grid.ChunkPlace.{ChunkPlace}
-use Rattle.h5w_header_laws.specs.Files.{with_index}
+use Rattle.h5w_step_laws.specs.Files.{with_index}
 use Rattle.h5w_flush_laws.specs.EarlyRows.{IsEarlyPlace}
 use Rattle.h5w_flush_laws.specs.Parts.{AreEnded}
 use Rattle.h5w_index.specs.Blocks.{has_no_block}

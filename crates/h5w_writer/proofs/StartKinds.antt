@@ -15,8 +15,8 @@ use Rattle.h5w_model.specs.Logs.{Log, plans, appended, and_now}
 use Rattle.h5w_model.specs.Findings.{Used, chunk_bytes}
 use Rattle.h5w_model.specs.declared.cell.Key.{Key}
 use Rattle.h5w_model.specs.declared.piece.Write.{Write}
-use Rattle.h5w_visit_laws.specs.Ranges.{block_at}
-use Rattle.h5w_visit_laws.specs.Needed.{AreFew}
+use Rattle.h5w_step_laws.specs.Ranges.{block_at}
+use Rattle.h5w_step_laws.specs.Needed.{AreFew}
 use Rattle.h5w_space.specs.Space.{Space, extent}
 use Rattle.h5w_cache.specs.Plans.{Took}
 use Rattle.h5w_cache.specs.Stores.{Store, is_changed}
@@ -25,7 +25,7 @@ use Rattle.h5w_chunks.specs.Grids.{FitsType, cells_of, fill_cell}
 use Rattle.h5w_chunks.specs.Shares.{touched, touched_key}
 use Rattle.h5w_chunks.specs.Early.{RowsStand}
 use Rattle.h5w_chunks.specs.declared.grid.ChunkPlace.{ChunkPlace}
-use Rattle.h5w_header_laws.specs.Files.{chunk_0, commit_at, with_rows}
+use Rattle.h5w_step_laws.specs.Files.{chunk_0, commit_at, with_rows}
 use Rattle.h5w_step_laws.specs.Moments.{Moment}
 use Rattle.h5w_step_laws.specs.Logs.{image_now}
 use Rattle.h5w_step_laws.specs.Sessions.{Runs}
@@ -35,15 +35,15 @@ use Rattle.h5w_array_laws.specs.ArrayStores as arrays
 use Rattle.h5w_flush_laws.specs.Spaces.{Taken}
 use Rattle.h5w_flush_laws.specs.Knowledge.{Knows}
 use Rattle.h5w_flush_laws.specs.Parts.{AreEnded, Parts, committed, pieces_of}
-use Rattle.h5w_flush_laws.specs.Rows.{ArePlaced, IsOutside, IsPlaced, new_chunks}
+use Rattle.h5w_flush_laws.specs.Rows.{IsOutside, IsPlaced, new_chunks}
 use Rattle.h5w_flush_laws.proofs.SpaceLemmas.{taken_laws}
 use Rattle.h5w_first_flush_laws.specs.Starting as starts
-use Rattle.h5w_first_flush_laws.specs.FirstFlushes.{no_chunk}
+use Rattle.h5w_first_flush_laws.specs.FirstFlushes.{RisesTo, no_chunk}
 use Rattle.h5w_first_flush_laws.specs.Starting.{StartKnows}
 use Rattle.h5w_first_flush_laws.specs.StartCalls.{ArePending, AreStartCalls, IsMade, NamesChunks}
 use Rattle.h5w_first_flush_laws.specs.StartFlushes as starts_parts
 use Rattle.h5w_block_laws.specs.HeaderAlone.{IsHeaderAlone}
-use Rattle.h5w_block_laws.specs.BlockFlushes.{block_parts_for}
+use Rattle.h5w_block_laws.specs.BlockFlushes.{new_block, top_piece}
 use Rattle.h5w_block_laws.specs.BlockCalls.{AreBlockCalls, AreOrdered}
 use Rattle.h5w_block_laws.proofs.BlockCallLemmas.{block_pending}
 use Rattle.h5w_first_flush_laws.proofs.StartLemmas.{blank_map, created_blank}
@@ -175,20 +175,25 @@ module _ (name : List ℕ) (log : Log) (m : Moment) (rest base first b t : Space
     behind = subst (λ (us : List Used). AreAmong (arrays.behind_of (chunk_bytes m.dataset) v) (us ++ arrays.behind_of (chunk_bytes m.dataset) u)) array_chunks c.named.behind;
   }
 
-  -- the chunks are placed in whatever parts of a flush have them, these rows and this map
-  array_placed : (f : Parts) → f.rows ≡ rows → f.more ≡ more → f.writes ≡ writes → f.address ≡ (λ key. address_in (an_array w) key) → f.chunks ≡ chunks_for m no_chunk places → ArePlaced (image_now log) m no_chunk f places
-  array_placed f is_rows is_more is_writes is_map is_chunks = record {
-    written = subst (λ (n : ℕ). RowsStand (image_now log) m.dataset (cells_of m.dataset f.more) m.dataset.shape.rows n places f.writes) (sym is_rows)
-        (subst (λ (vs : List ℤ). RowsStand (image_now log) m.dataset (cells_of m.dataset vs) m.dataset.shape.rows rows places f.writes) (sym is_more)
-        (subst (λ (ws : List Write). RowsStand (image_now log) m.dataset (cells_of m.dataset more) m.dataset.shape.rows rows places ws) (sym is_writes) c.stand));
-    all = subst (λ (n : ℕ). length places ≡ touched m.dataset m.dataset.shape.rows n) (sym is_rows) c.all;
-    placed = λ k p here. subst (λ (g : Key → ℕ). IsPlaced m.dataset no_chunk g m.dataset.shape.rows k p) (sym is_map)
-        (subst (λ (g : Key → ℕ). IsPlaced m.dataset g (λ key. address_in (an_array w) key) m.dataset.shape.rows k p) array_none (c.placed k p here));
-    others = λ key asked outside. ap (λ (g : Key → ℕ). g key) is_map ∙ c.others key (subst (λ (n : ℕ). IsOutside m.dataset m.dataset.shape.rows n key) is_rows outside) ∙ array_blank.map key.i;
-    chunks = is_chunks;
-    typed = c.typed;
-    filled = c.filled;
-    fit = λ k n here. c.fit k n (subst (λ (vs : List ℤ). slice_get vs k ≡ Some n) is_more here);
+  -- the rows of such a flush, whatever its index block and header are written as
+  array_rising : (copies first : List (ℕ × List ℕ)) (in_place : List Write) (o : Option ℕ)
+      → RisesTo (image_now log) m (starts_parts.first_parts (chunk_bytes m.dataset) w rows more writes (chunks_for m no_chunk places) copies first supers t.end in_place o) places
+  array_rising copies first in_place o = record {
+    rises = c.rises;
+    small = c.small;
+    few = c.few;
+    count = c.count;
+    placed = record {
+      written = c.stand;
+      all = c.all;
+      placed = λ k p here. subst (λ (g : Key → ℕ). IsPlaced m.dataset g (λ key. address_in (an_array w) key) m.dataset.shape.rows k p) array_none (c.placed k p here);
+      others = λ key asked outside. c.others key outside ∙ array_blank.map key.i;
+      chunks = refl;
+      typed = c.typed;
+      filled = c.filled;
+      fit = c.fit;
+    };
+    ended = c.ended;
   }
 
   as_index : (o : Option ℕ) → ArePending name log m o w t rows more ws → AreFirstPending name log m o (an_array w) t rows more ws
@@ -207,16 +212,11 @@ module _ (name : List ℕ) (log : Log) (m : Moment) (rest base first b t : Space
   -- where the layout names none, the dataset header names it
   pub named_calls : m.dataset.layout.address ≡ undefined → TookTwo base at array_made.block first → AreStartCalls (image_now log) m rest b at array_made.block u v ms w t rows more writes places cs fixed supers
   named_calls none two = record {
-    rises = c.rises;
-    small = c.small;
-    few = c.few;
-    count = c.count;
+    rising = λ copies. array_rising copies (starts_parts.first_blocks w) [] (Some (arrays.header_place w));
     taken = c.taken (block_at at eahd_len ∷ block_at array_made.block eaib_len ∷ []) (two_taken base two.between first at array_made.block two.first two.second);
     made = array_made.is_made;
     names = names_chunks;
-    placed = λ copies. array_placed (starts_parts.parts_for m w rows more writes places copies supers t.end) refl refl refl refl refl;
     plan = c.plan;
-    ended = c.ended;
   }
 
   pub named_pieces : m.dataset.layout.address ≡ undefined → ws ≡ writes ++ (cs ++ (fixed ++ (supers ++ commit_at (image_now log) m.place rows (Some (arrays.header_place w)) ∷ [])))
@@ -236,16 +236,11 @@ module _ (name : List ℕ) (log : Log) (m : Moment) (rest base first b t : Space
   -- else its header, which is there, names its index block
   pub alone_calls : at ≡ m.dataset.layout.address → Took base first (extent array_made.block eaib_len) → AreBlockCalls (image_now log) m rest b array_made.block u v ms w t rows more writes places cs fixed supers
   alone_calls there took = record {
-    rises = c.rises;
-    small = c.small;
-    few = c.few;
-    count = c.count;
+    rising = λ copies. array_rising copies (new_block w) (top_piece w ∷ []) None;
     taken = c.taken (block_at array_made.block eaib_len ∷ []) (taken_laws.one base first (block_at array_made.block eaib_len) (omega arith) took);
     made = subst (λ (n : ℕ). IsMade n array_made.block u) there array_made.is_made;
     names = names_chunks;
-    placed = λ copies. array_placed (block_parts_for m w rows more writes places copies supers t.end) refl refl refl refl refl;
     plan = c.plan;
-    ended = c.ended;
   }
 
   pub ordered_pieces : m.dataset.layout.address ≢ undefined → AreOrdered (image_now log) m rows writes cs fixed supers ws
@@ -286,26 +281,28 @@ module _ (name : List ℕ) (log : Log) (m : Moment) (rest base first b t : Space
 
   pub tree_calls : AreTreeStartCalls (image_now log) m rest b p v ms w t rows more writes places added cs fixed supers
   tree_calls = record {
-    rises = c.rises;
-    small = c.small;
-    few = c.few;
-    count = c.count;
     taken = c.taken (block_at p bthd_len ∷ []) (taken_laws.one base first (block_at p bthd_len) (omega arith) (subst (λ (n : ℕ). Took base first (extent n bthd_len)) (sym tree_made.place_is) tree_made.header));
     ends = omega (arith, tree_made.ends, tree_made.place_is);
     some = c.some;
     named = c.named;
-    placed = λ copies. record {
-      written = c.stand;
-      all = c.all;
-      placed = λ k q here. subst (λ (f : Key → ℕ). IsPlaced m.dataset f (λ key. address_in (a_tree p w) key) m.dataset.shape.rows k q) tree_none (c.placed k q here);
-      others = λ key asked outside. c.others key outside ∙ made_none m.dataset.layout.address base at (a_tree p no_tree) first c.made key;
-      chunks = refl;
-      typed = c.typed;
-      filled = c.filled;
-      fit = c.fit;
+    rising = λ copies. record {
+      rises = c.rises;
+      small = c.small;
+      few = c.few;
+      count = c.count;
+      placed = record {
+        written = c.stand;
+        all = c.all;
+        placed = λ k q here. subst (λ (f : Key → ℕ). IsPlaced m.dataset f (λ key. address_in (a_tree p w) key) m.dataset.shape.rows k q) tree_none (c.placed k q here);
+        others = λ key asked outside. c.others key outside ∙ made_none m.dataset.layout.address base at (a_tree p no_tree) first c.made key;
+        chunks = refl;
+        typed = c.typed;
+        filled = c.filled;
+        fit = c.fit;
+      };
+      ended = c.ended;
     };
     plan = c.plan;
-    ended = c.ended;
   }
 
   pub tree_pieces : ws ≡ writes ++ (cs ++ (fixed ++ (supers ++ commit_at (image_now log) m.place rows (Some p) ∷ [])))

@@ -15,7 +15,7 @@ use Rattle.h5w_space.specs.declared.Full.{Full}
 use Rattle.h5w_chunks.specs.Early.{RowsStand}
 use Rattle.h5w_chunks.specs.Grids.{cells_of}
 use Rattle.h5w_chunks.specs.Rows.{ChunksApart}
-use Rattle.h5w_header_laws.specs.Files.{with_index}
+use Rattle.h5w_step_laws.specs.Files.{with_index}
 use Rattle.h5w_step_laws.specs.Moments.{Moment, reading_of}
 use Rattle.h5w_step_laws.specs.Logs.{image_now}
 use Rattle.h5w_flush_laws.specs.Parts.{IsFlush, flushed_to}

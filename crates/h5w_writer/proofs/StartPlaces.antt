@@ -6,13 +6,13 @@ use Rattle.h5w_model.specs.Trees.{bthd_len}
 use Rattle.h5w_model.specs.Datasets.{Described}
 use Rattle.h5w_model.specs.Findings.{Used}
 use Rattle.h5w_model.specs.declared.cell.Key.{Key}
-use Rattle.h5w_visit_laws.specs.Needed.{AreFew}
-use Rattle.h5w_visit_laws.specs.Ranges.{block_at}
+use Rattle.h5w_step_laws.specs.Needed.{AreFew}
+use Rattle.h5w_step_laws.specs.Ranges.{block_at}
 use Rattle.h5w_space.specs.Space.{Space}
 use Rattle.h5w_chunks.specs.Shares.{touched}
 use Rattle.h5w_chunks.specs.Rows.{ChunksApart}
 use Rattle.h5w_chunks.specs.declared.grid.ChunkPlace.{ChunkPlace}
-use Rattle.h5w_header_laws.specs.Files.{with_rows}
+use Rattle.h5w_step_laws.specs.Files.{with_rows}
 use Rattle.h5w_step_laws.specs.Moments.{Moment}
 use Rattle.h5w_array_laws.proofs.NamingLemmas.{part_moved}
 use Rattle.h5w_flush_laws.specs.Knowledge.{Knows}

@@ -6,9 +6,9 @@ use Rattle.h5w_model.specs.Datasets.{dataspace_kind, layout_kind}
 use Rattle.h5w_model.specs.Headers.{index_address_place, index_in_data, index_in_header, messages_at, with_number, with_rows_bytes}
 use Rattle.h5w_model.specs.declared.message.Msg.{Msg}
 use Rattle.h5w_model.specs.declared.refusal.HeaderError.{HeaderError}
-use Rattle.h5w_header_laws.specs.Commits.{IsIndexWritten, renumbered, with_index_in, with_rows_in}
-use Rattle.h5w_header_laws.proofs.ChunkLemmas.{find_map, find_other, renumbered_kinds}
-use Rattle.h5w_header_laws.proofs.CommitLaws.{index_place_is, index_there, index_written, rows_written, the_data}
+use Rattle.h5w_step_laws.specs.Commits.{IsIndexWritten, renumbered, with_index_in, with_rows_in}
+use Rattle.h5w_step_laws.proofs.ChunkLemmas.{find_map, find_other, renumbered_kinds}
+use Rattle.h5w_step_laws.proofs.CommitLaws.{index_place_is, index_there, index_written, rows_written, the_data}
 use Rattle.h5w_model.proofs.HeaderLemmas.{length-with_number, messages_at-ok}
 use Rattle.h5w_writer.specs.Sessions.{HasAddress, IsWritable}
 

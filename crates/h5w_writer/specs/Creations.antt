@@ -2,7 +2,7 @@
 use Rattle.std.specs.Prelude.{◌≡◌, ℕ, ◌^◌, ◌≤◌, List, [], false}
 use Rattle.h5w_model.specs.Logs.{Log, Happening}
 use Rattle.h5w_space.specs.Space.{Space}
-use Rattle.h5w_header_laws.specs.Spelled.{spelled_header}
+use Rattle.h5w_step_laws.specs.Spelled.{spelled_header}
 use Rattle.h5w_index.specs.Views.{IndexView, IsSound}
 use Rattle.h5w_creation_laws.specs.CreatedFiles.{CreatedFile, block_place, created_log, created_writes, described_of, end_of, header_place, index_place, super_of}
 use Rattle.h5w_creation.specs.Made.{IsNewIndex}

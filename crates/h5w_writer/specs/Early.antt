@@ -17,7 +17,7 @@ use Rattle.h5w_flush_laws.specs.EarlyRows.{IsEarlyPlace}
 use Rattle.h5w_index.specs.Naming.{AreTaken, AreTakenBehind}
 use Rattle.h5w_index.specs.Placing.{next_key}
 use Rattle.h5w_index.specs.Views.{address_in}
-use Rattle.h5w_visit_laws.specs.Needed.{AreFew}
+use Rattle.h5w_step_laws.specs.Needed.{AreFew}
 use Rattle.h5w_pieces.specs.NextPlaces.{next_places}
 use Rattle.h5w_writer.specs.Sessions.{Session, next_row, row_bytes, rows_of, with_rows}
 

@@ -15,7 +15,7 @@ use Rattle.h5w_chunks.specs.declared.grid.ChunkPlace.{ChunkPlace}
 use Rattle.h5w_flush_laws.specs.Parts.{AreEnded}
 use Rattle.h5w_index.specs.Views.{IndexView, address_in}
 use Rattle.h5w_index.specs.Steps.{IsBegun, IsPlan, ListsOnce}
-use Rattle.h5w_index.specs.declared.begun.Begun.{Begun}
+use Rattle.h5w_index.specs.declared.flush.IndexFlush.{IndexFlush}
 use Rattle.h5w_index.specs.Naming.{AreNamed, AreTakenBehind}
 use Rattle.h5w_index.specs.Placing.{Fits, IsPartly}
 use Rattle.h5w_pieces.specs.NextPlaces.{next_places, writes_behind}
@@ -55,7 +55,7 @@ flushed_of s t ws v = record s {
 
 -- The chunks have their places over an index and places, some first of them had theirs before, and then the plan of the index that names them
 -- all is begun.
-pub record IsPrepared (d : Described) (to : ℕ) (v : IndexView) (early : List ChunkPlace) (before : Space) (chunks : List ChunkPlace) (added : List Key) (named : IndexView) (b : Begun) (t : Space) : Type 0 where
+pub record IsPrepared (d : Described) (to : ℕ) (v : IndexView) (early : List ChunkPlace) (before : Space) (chunks : List ChunkPlace) (added : List Key) (named : IndexView) (b : IndexFlush) (t : Space) : Type 0 where
   pub between : Space
   pub names : AreNamed d to v chunks added named
   pub taken : AreTakenBehind d (λ key. address_in v key) early before chunks between

@@ -13,9 +13,9 @@ use Rattle.h5w_model.specs.declared.cell.Key.{Key}
 use Rattle.h5w_model.specs.declared.message.Msg.{Msg}
 use Rattle.h5w_model.specs.declared.root.Super.{Super}
 use Rattle.h5w_model.specs.declared.piece.Write.{Write}
-use Rattle.h5w_header_laws.specs.Files.{with_index}
+use Rattle.h5w_step_laws.specs.Files.{with_index}
 use Rattle.h5w_space.specs.Space.{Commits, IsLive, Space}
-use Rattle.h5w_visit_laws.specs.Ranges.{AllEndBy as RangesEndBy}
+use Rattle.h5w_step_laws.specs.Ranges.{AllEndBy as RangesEndBy}
 use Rattle.h5w_chunks.specs.Grids.{cells_of, chunk_len}
 use Rattle.h5w_chunks.specs.Shares.{first_line, touched}
 use Rattle.h5w_chunks.specs.declared.grid.ChunkPlace.{ChunkPlace}

@@ -8,7 +8,7 @@ use Rattle.h5w_model.specs.Prefixed.{PrefixedEach, Still}
 use Rattle.h5w_model.specs.declared.cell.Key.{Key}
 use Rattle.h5w_model.specs.declared.piece.Write.{Write}
 use Rattle.h5w_chunks.specs.Grids.{cells_of}
-use Rattle.h5w_header_laws.specs.Files.{chunk_0}
+use Rattle.h5w_step_laws.specs.Files.{chunk_0}
 use Rattle.h5w_step_laws.specs.Moments.{Moment}
 use Rattle.h5w_step_laws.specs.Logs.{image_now}
 use Rattle.h5w_step_laws.specs.Sessions.{Runs}

@@ -9,12 +9,12 @@ use Rattle.h5w_model.specs.Trees.{bthd_len}
 use Rattle.h5w_model.specs.Findings.{Used}
 use Rattle.h5w_model.specs.declared.cell.Key.{Key}
 use Rattle.h5w_model.specs.declared.piece.Write.{Write}
-use Rattle.h5w_visit_laws.specs.Ranges.{AllEndBy}
+use Rattle.h5w_step_laws.specs.Ranges.{AllEndBy}
 use Rattle.h5w_space.specs.Space.{Space, extent}
 use Rattle.h5w_cache.specs.Plans.{Took}
 use Rattle.h5w_cache.specs.Stores.{Store}
 use Rattle.h5w_chunks.specs.Grids.{cells_of}
-use Rattle.h5w_header_laws.specs.Files.{with_index}
+use Rattle.h5w_step_laws.specs.Files.{with_index}
 use Rattle.h5w_step_laws.specs.Moments.{Moment}
 use Rattle.h5w_step_laws.specs.Logs.{image_now}
 use Rattle.h5w_step_laws.specs.Sessions.{Runs}

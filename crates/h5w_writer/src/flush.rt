@@ -225,7 +225,7 @@ impl WriterCore {
         ensures image { Same (W.view image.old) (W.view image.new) }
         ensures room { OnOk result (HasRoomFor self.new (W.view image.new)) }
     {
-        let planned = self.plan_rows()?;
+        let planned = self.plan_taking()?;
         let (rows, after, end) = self.needs(&planned);
         match make_room(rows, after, end, image) {
             Ok(()) => Ok(self.carry_out(planned)),

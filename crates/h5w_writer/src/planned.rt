@@ -1,6 +1,6 @@
 //! A flush that is planned and only has to be carried out: it has all memory and all places that it needs.
 use crate::backlog::Rows;
-use h5w_index::{Begun, Index, Key};
+use h5w_index::{Index, IndexFlush, Key};
 use h5w_model::Write;
 use h5w_space::Places;
 
@@ -9,7 +9,7 @@ use h5w_space::Places;
 pub struct Prepared {
     /// The writes of the rows, with room for all pieces behind them.
     pub writes: Vec<Write>,
-    pub begun: Begun,
+    pub begun: IndexFlush,
     /// How many pieces follow the writes of the rows at most: copies, superblock, blocks in place, header.
     pub after: usize,
     /// The file's end, in bytes, once the places are taken.

@@ -33,22 +33,16 @@ use crate::state::WriterCore;
 use crate::taking::{Taking, name_chunks, named_chunk, place_chunks, unset};
 use h5w_bytes::UNDEFINED;
 use h5w_chunks::{ChunkPlace, Grid, IndexKind};
-use h5w_index::{Begun, Index};
+use h5w_creation::{ARRAY_LEN, BLOCK_LEN, TREE_LEN};
+use h5w_index::{Index, IndexFlush};
 use h5w_model::{OutOfMemory, Write};
 use h5w_pieces::{alone_pieces, put_behind};
 use h5w_space::{Full, Places};
 use std::alloc::Global;
 use std::mem;
 
-/// The bytes of an extensible array's index block, of its header, and of a version 2 B-tree's header.
-const INDEX_BLOCK: u64 = 298;
-
-const ARRAY_HEADER: u64 = 72;
-
-const TREE_HEADER: u64 = 38;
-
 /// How many pieces follow the writes of the rows at most: copies, superblock, blocks in place, header. None where no list has so many.
-fn pieces_after(begun: &Begun) -> Option<usize>
+fn pieces_after(begun: &IndexFlush) -> Option<usize>
     ensures sum { IfSome result (λ n. n ≡ copy_pieces begun.now + in_place_pieces begun.now + 2) }
     ensures none { IfNone result (2 ^ 64 ≤ copy_pieces begun.now + in_place_pieces begun.now + 2) }
 {
@@ -148,8 +142,8 @@ fn take_two(places: &mut Places) -> Result<(u64, u64), Full>
     ensures block { IfOk result (λ x. x.1 + eaib_len ≤ places.new.end) }
     ensures full { IfErr result (λ full. IsArrayUnplaced undefined places.old full) }
 {
-    let block = places.take(INDEX_BLOCK)?;
-    let header = places.take(ARRAY_HEADER)?;
+    let block = places.take(BLOCK_LEN)?;
+    let header = places.take(ARRAY_LEN)?;
     Ok((header, block))
 }
 
@@ -165,7 +159,7 @@ fn take_block(header: u64, places: &mut Places) -> Result<(u64, u64), Full>
     ensures block { IfOk result (λ x. x.1 + eaib_len ≤ places.new.end) }
     ensures full { IfErr result (λ full. IsArrayUnplaced header places.old full) }
 {
-    let block = places.take(INDEX_BLOCK)?;
+    let block = places.take(BLOCK_LEN)?;
     Ok((header, block))
 }
 
@@ -212,7 +206,7 @@ fn start_tree(alloc: Global, places: &mut Places) -> Result<(Index, u64), Full>
     ensures within { IfOk result (λ x. (lines across : ℕ) → AreWithin lines across (view_of x.0)) }
     ensures full { IfErr result (λ full. IsUnplaced Tree undefined places.old full) }
 {
-    let header = places.take(TREE_HEADER)?;
+    let header = places.take(TREE_LEN)?;
     Ok((Index::new_tree(alloc, header), header))
 }
 
@@ -256,17 +250,30 @@ impl WriterCore {
         ensures deep { result ≡ Err FlushError.Deep → IsDeepFor self.old }
         ensures causes { IfErr result (λ e. IsSpace e ⊎ ((e ≡ FlushError.Deep) ⊎ (e ≡ FlushError.OutOfMemory))) }
     {
+        if !self.is_unmade() {
+            if let Some(place) = self.chunk_alone() {
+                return Ok(Planned::Alone(self.plan_alone(place)?));
+            }
+        }
+        self.plan_taking()
+    }
+
+    /// The first half, as `plan_rows` plans it where no chunk that is named already takes all rows that wait. It does not ask whether one does.
+    pub(crate) fn plan_taking(&mut self) -> Result<Planned, FlushError>
+        requires waits { 0 < self.old.waits }
+        requires idle { self.old.pending ≡ [] }
+        ensures half { IfOk result (λ p. IsHalf self.old self.new p) }
+        ensures kept { OnErr result (SameBut self.old self.new) }
+        ensures full { (full : Full) → result ≡ Err (FlushError.Space full) → IsFullFor self.old full }
+        ensures deep { result ≡ Err FlushError.Deep → IsDeepFor self.old }
+        ensures causes { IfErr result (λ e. IsSpace e ⊎ ((e ≡ FlushError.Deep) ⊎ (e ≡ FlushError.OutOfMemory))) }
+    {
         if self.is_unmade() {
             let taking = self.taking()?;
             return Ok(Planned::Starts(self.plan_starting(taking)?));
         }
-        match self.chunk_alone() {
-            Some(place) => Ok(Planned::Alone(self.plan_alone(place)?)),
-            None => {
-                let taking = self.taking()?;
-                Ok(Planned::Grows(self.plan_growing(taking)?))
-            }
-        }
+        let taking = self.taking()?;
+        Ok(Planned::Grows(self.plan_growing(taking)?))
     }
 
     /// Whether something of the index is not there: the layout names none, or it is an array without an index block.

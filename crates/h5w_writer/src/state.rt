@@ -7,7 +7,7 @@ ghost use Rattle.h5w_model.specs.Logs.{Log, and_now, appended, appends, flushed_
 ghost use Rattle.h5w_options.specs.Options.{AreOptions};
 ghost use Rattle.h5w_model.specs.Superblock.{super_at, super_bytes};
 ghost use Rattle.h5w_writer.specs.Creations.{IsCreated};
-ghost use Rattle.h5w_form.specs.NewFiles.{new_file};
+ghost use Rattle.h5w_creation.specs.NewFiles.{new_file};
 ghost use Rattle.h5w_creation_laws.specs.CreatedFiles.{created_log};
 ghost use Rattle.h5w_image.specs.View.{Same};
 ghost use Rattle.h5w_writer.specs.Room.{HasRoomFor};
@@ -21,8 +21,8 @@ ghost use Rattle.h5w_writer.specs.declared.refusal.CloseError.{CloseError};
 use crate::backlog::Backlog;
 use crate::refusal::{AppendError, CloseError};
 use h5w_chunks::{Grid, IndexKind};
-use h5w_creation::create_file;
-use h5w_form::form_of;
+use h5w_creation::{create_file, form_of};
+use h5w_ea::CHUNKS;
 use h5w_image::PieceWrite;
 use h5w_index::Index;
 use h5w_model::{OutOfMemory, Piece, Super, Write};
@@ -32,9 +32,6 @@ use h5w_space::Places;
 use h5w_types::first_outside;
 use std::alloc::Global;
 use std::marker::Model;
-
-/// The most chunks of an extensible array whose data blocks have no pages.
-const ARRAY_CHUNKS: u64 = 131_060;
 
 /// The most chunks of a version 2 B-tree.
 const TREE_CHUNKS: u64 = 1_000_000;
@@ -238,7 +235,7 @@ impl WriterCore {
         ensures { result ≡ chunk_limit self.now }
     {
         match self.grid.layout.index {
-            IndexKind::Array => ARRAY_CHUNKS,
+            IndexKind::Array => CHUNKS,
             IndexKind::Tree => TREE_CHUNKS,
         }
     }
@@ -381,6 +378,27 @@ impl WriterCore {
         ensures { result ≡ self.now.places.end }
     {
         self.places.end()
+    }
+
+    /// The most bytes that may wait unwritten after an append.
+    pub fn budget(&self) -> u64
+        ensures { result ≡ self.now.budget }
+    {
+        self.budget
+    }
+
+    /// Whether the session was stopped or closed, so that it takes no rows and plans nothing.
+    pub fn is_stopped(&self) -> bool
+        ensures { result ≡ self.now.stopped }
+    {
+        self.stopped
+    }
+
+    /// How many bytes the file may have at most.
+    pub fn limit(&self) -> u64
+        ensures { result ≡ self.now.places.limit }
+    {
+        self.places.limit()
     }
 
     /// The dataset's name.

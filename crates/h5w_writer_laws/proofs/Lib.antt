@@ -1,2 +1,3 @@
-pub mod ServedLemmas
+mod ServedLemmas
 pub mod PieceLemmas
+pub mod LeavingLemmas

@@ -22,17 +22,17 @@ use Rattle.h5w_headers.proofs.RanLemmas.{step_ok, step_err}
 use Rattle.h5w_step_laws.specs.Moments.{Moment, Represents}
 use Rattle.h5w_step_laws.proofs.MomentLemmas.{super_parts}
 use Rattle.h5w_step_laws.proofs.FoundLemmas.{opens}
-use Rattle.h5w_visit_laws.proofs.HeaderLaws.{DatasetParts, RootParts, dataset_parts, root_parts}
+use Rattle.h5w_step_laws.proofs.HeaderLaws.{DatasetParts, RootParts, dataset_parts, root_parts}
 use Rattle.h5w_model.specs.Tables.{InPlace, address_behind, in_place}
 use Rattle.h5w_model.specs.Arrays.{super_block_of}
 use Rattle.h5w_model.specs.Findings.{index_visit, tree_visit}
 use Rattle.h5w_model.specs.declared.cell.IndexKind.TheVariants.{Tree}
 use Rattle.h5w_laws.proofs.ResultLemmas.{HasAnswer}
-use Rattle.h5w_visit_laws.specs.Indexes.{IsIndex}
-use Rattle.h5w_visit_laws.specs.Ranges.{AllEndBy, Among, block_at, chunk_at}
-use Rattle.h5w_visit_laws.proofs.HeaderVisits.{used_of}
-use Rattle.h5w_visit_laws.proofs.RangeLemmas.{among_right, ends_right}
-use Rattle.h5w_header_laws.proofs.ImageLemmas.{header_read}
+use Rattle.h5w_step_laws.specs.Indexes.{IsIndex}
+use Rattle.h5w_step_laws.specs.Ranges.{AllEndBy, Among, block_at, chunk_at}
+use Rattle.h5w_step_laws.proofs.HeaderVisits.{used_of}
+use Rattle.h5w_step_laws.proofs.RangeLemmas.{among_right, ends_right}
+use Rattle.h5w_step_laws.proofs.ImageLemmas.{header_read}
 use Rattle.h5w_space.specs.declared.Extent.{Extent}
 use Rattle.h5w_cache.specs.Stores.{Store}
 use Rattle.h5w_cache.specs.StoreLaws.{Standing}

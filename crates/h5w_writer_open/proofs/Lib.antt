@@ -1,5 +1,5 @@
 pub mod OpenRangeLemmas
-pub mod SaidLemmas
+mod SaidLemmas
 pub mod OpenLineLemmas
 pub mod SessionOver
 mod UndamagedLemmas

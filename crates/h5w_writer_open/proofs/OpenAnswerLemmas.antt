@@ -7,7 +7,7 @@ use Rattle.h5w_model.specs.Datasets.{Described}
 use Rattle.h5w_model.specs.Findings.{Summary, Valid}
 use Rattle.h5w_model.specs.Tables.{Reads}
 use Rattle.h5w_model.specs.declared.root.Super.{Super}
-use Rattle.h5w_header_laws.specs.Files.{chunk_0}
+use Rattle.h5w_step_laws.specs.Files.{chunk_0}
 use Rattle.h5w_index.specs.Views.{IndexView, an_array, a_tree}
 use Rattle.h5w_opening.specs.Openings.{IsFound, IsSaid, Opened, refused_dataset}
 use Rattle.h5w_opening.proofs.FoundParts.{parts}

@@ -1,5 +1,5 @@
 -- How the steps of an opening compose, and what each of them means for the whole.
-use Rattle.std.proofs.Common.{◌≡◌, ◌≢◌, ◌⊎◌, ℕ, ◌-◌, ◌^◌, min, Bool, true, false, cond, not, ◌&&◌, List, ◌∷◌, ◌++◌, take, Option, Some, None, Result, Ok, Err, refl, sym, ap, ◌∙◌, subst, inl, inr, arith}
+use Rattle.std.proofs.Common.{◌≡◌, ◌≢◌, ◌⊎◌, ℕ, ◌-◌, ◌^◌, min, Bool, true, false, cond, not, ◌&&◌, List, [], ◌∷◌, ◌++◌, take, Option, Some, None, Result, Ok, Err, refl, sym, ap, ◌∙◌, subst, inl, inr, arith}
 use Rattle.std.specs.Prelude.{IfErr, nat_lt, option_map, ◌==◌}
 use Rattle.std.specs.Option.{option_or}
 use Rattle.h5w_model.specs.Causes.{Rose}
@@ -17,7 +17,8 @@ use Rattle.h5w_headers.specs.Walks.{dataset_header_for}
 use Rattle.h5w_headers.proofs.RanLemmas.{later}
 use Rattle.h5w_model.specs.declared.cell.IndexKind.TheVariants.{Array, Tree}
 use Rattle.h5w_model.specs.declared.cell.Key.{Key}
-use Rattle.h5w_ea_index.specs.Opened.{IsDamaged, IfDamaged as IfArrayDamaged, Loads as ArrayLoads}
+use Rattle.h5w_array_laws.specs.ArrayStores.{IsArray, header_place}
+use Rattle.h5w_ea_index.specs.Opened.{IsDamaged, IsOpened, IfDamaged as IfArrayDamaged, Loads as ArrayLoads, NamesNone}
 use Rattle.h5w_cache.specs.Stores.{Store}
 use Rattle.h5w_bt_index.specs.Held as trees
 use Rattle.h5w_bt_index.specs.Marks.{clean_of}
@@ -33,12 +34,12 @@ use Rattle.h5w_bt_open.specs.declared.error.OpenTreeError.TheVariants as tree_er
 use Rattle.h5w_index.specs.Held.{view_of}
 use Rattle.h5w_index.specs.Views.{IndexView}
 use Rattle.h5w_index.specs.declared.index.Index.{Index as HeldIndex}
-use Rattle.h5w_index.specs.declared.index.Index.TheVariants.{Tree as HeldTree}
+use Rattle.h5w_index.specs.declared.index.Index.TheVariants.{Array as HeldArray, Tree as HeldTree}
 use Rattle.h5w_ea_index.specs.declared.error.OpenArrayError.{OpenArrayError}
 use Rattle.h5w_ea_index.specs.declared.error.OpenArrayError.TheVariants as array_errors
-use Rattle.h5w_header_laws.specs.Files.{chunk_0}
-use Rattle.h5w_header_laws.proofs.FileLaws.{has_space, has_layout}
-use Rattle.h5w_header_laws.proofs.ImageLemmas.{header_read}
+use Rattle.h5w_step_laws.specs.Files.{chunk_0}
+use Rattle.h5w_step_laws.proofs.FileLaws.{has_space, has_layout}
+use Rattle.h5w_step_laws.proofs.ImageLemmas.{header_read}
 use Rattle.h5w_space.specs.declared.Extent.{Extent}
 use Rattle.h5w_opening.specs.Errors.{IsOpenKind, open_errors, refusal_of}
 use Rattle.h5w_opening.specs.Openings.{Opened, chunk_0_len, looked_for, most_chunk_bytes, refused_dataset, in_chunk_0}
@@ -52,7 +53,7 @@ use Rattle.h5w_writer_open.specs.declared.index.NoIndex.{NoIndex}
 use Rattle.h5w_writer_open.specs.declared.index.NoIndex.TheVariants as whys
 use Rattle.h5w_writer_open.specs.OpenAnswers.{IfRefusal, IsIndexOf, IsKeptIndexOf, IsNotOpened, array, damaged, refused, tree}
 use Rattle.h5w_writer_open.specs.OpenRanges.{chunk_0_range, cut_at, first_key, first_open_line, first_past, open_blocks, open_chunks, ranges_refused, refused_index, refused_open, is_starting}
-use Rattle.h5w_writer_open.specs.OpenSteps.{IsBadIndex, IsFoundIn, IsOpenedFile, OpenStep, Says, array_error, front_of, tree_error, IsKeptHeader}
+use Rattle.h5w_writer_open.specs.OpenSteps.{IsBadIndex, IsFoundIn, IsOpenedFile, OpenStep, array_error, front_of, tree_error, IsKeptHeader}
 use Rattle.h5w_writer.specs.Sessions.{IsWritable, HasAddress}
 use Rattle.h5w_writer_open.proofs.SessionOver.{in_chunk, starts_so, unrefused_parts}
 
@@ -281,6 +282,19 @@ bad_array {v = v} {w = w} d first e out kind named from is loads =
     told img (array_errors.Damaged a f) h = record { at = a; fault = f; bad = array kind named (subst (λ n. IsDamaged img d.layout.address n a f) from h); is = refl }
     told img array_errors.Failed h = tt
     told img array_errors.OutOfMemory h = tt
+
+-- an array that is opened, or whose header names no index block
+module _ {v w : ImageView} (d : Described) (first : ℕ) (array_is : d.layout.index ≡ Array) (named : d.layout.address ≢ undefined) (looked : Looked v w) where
+  pub good_array : (a : Store) → first ≡ first_open_line d → header_place a ≡ d.layout.address → IsArray a → a.changed ≡ [] → ((img : List ℕ) → IsStill v img → IsOpened img first a) → OpenStep v w (index_good d) (index_bad d) (Ok (Ok (HeldArray a)))
+  good_array a from at is clean opened = record {
+    looked = looked;
+    cause = λ h. absurd cc;
+    kinds = tt;
+    exact = λ img still. record { kind = array_is; named = named; at = at; array = is; clean = clean; opened = subst (λ n. IsOpened img n a) from (opened img still) };
+  }
+
+  pub empty_array : ((img : List ℕ) → IsStill v img → NamesNone img d.layout.address) → OpenStep v w (index_good d) (index_bad d) (Ok (Err whys.Empty))
+  empty_array none = record { looked = looked; cause = λ h. absurd cc; kinds = tt; exact = λ img still. record { kind = array_is; named = named; empty = none img still } }
 
 -- and a tree
 pub bad_tree : {v w : ImageView} (d : Described) (first : Key) (e : OpenTreeError) (out : OpenError) → d.layout.index ≡ Tree → d.layout.address ≢ undefined → first ≡ first_key d → out ≡ tree_error e

@@ -19,7 +19,7 @@ use Rattle.h5w_model.specs.declared.cell.IndexKind.TheVariants.{Array, Tree}
 use Rattle.h5w_model.specs.declared.root.Super.{Super}
 use Rattle.h5w_model.proofs.IntegerLemmas.{int_sizes}
 use Rattle.h5w_laws.proofs.ResultLemmas.{HasAnswer}
-use Rattle.h5w_visit_laws.proofs.HeaderLaws.{DatasetParts, RootParts, dataset_parts, root_parts}
+use Rattle.h5w_step_laws.proofs.HeaderLaws.{DatasetParts, RootParts, dataset_parts, root_parts}
 use Rattle.h5w_step_laws.specs.Moments.{Moment, Represents}
 use Rattle.h5w_step_laws.proofs.MomentLemmas.{super_parts}
 use Rattle.h5w_step_laws.proofs.FoundLemmas.{opens}
@@ -40,7 +40,7 @@ use Rattle.h5w_index.specs.Flushes.{Begins}
 use Rattle.h5w_index.proofs.BeginLemmas.{index_begins}
 use Rattle.h5w_ea_index.proofs.StandingLemmas.{opened_stands as array_stands}
 use Rattle.h5w_headers.specs.Walks.{root_header_for, dataset_header_for}
-use Rattle.h5w_header_laws.specs.Files.{chunk_0, LayoutInChunk0}
+use Rattle.h5w_step_laws.specs.Files.{chunk_0, LayoutInChunk0}
 use Rattle.h5w_opening.specs.Openings.{Opened, looked_for, in_chunk_0, chunk_0_len}
 use Rattle.h5w_opening.proofs.FoundParts.{parts}
 use Rattle.h5w_opening.proofs.WritingLemmas.{alike_ok, dataset_alike, root_alike}

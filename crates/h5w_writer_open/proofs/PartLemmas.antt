@@ -1,5 +1,5 @@
 -- What the opening of a file by several names answers of each of its datasets.
-use Rattle.std.proofs.Common.{◌≡◌, ◌⊎◌, ℕ, Bool, true, List, [], Option, Some, None, Result, Ok, Err, sym, ap, ◌∙◌, subst, inl, inr, ◌≤◌, length}
+use Rattle.std.proofs.Common.{◌≡◌, ◌⊎◌, ℕ, List, Option, Some, None, Result, Ok, Err, sym, ap, ◌∙◌, subst, inl, inr, ◌≤◌, length}
 use Rattle.std.specs.Prelude.{MatchOption}
 use Rattle.std.specs.Option.{option_or}
 use Rattle.h5w_model.specs.Numbers.{range}
@@ -24,7 +24,7 @@ use Rattle.h5w_writer_open.specs.OpenRanges.{is_starting, ranges_refused, refuse
 use Rattle.h5w_writer_open.specs.OpenSteps.{IsBadIndex, IsKeptHeader, IsReady, front_of, versioned}
 use Rattle.h5w_writer_open.proofs.OpenStepLemmas.{IsKeptFront, IsQuiet, front_kept, refused_quiet, some_refusal}
 use Rattle.h5w_writer_open.proofs.OpenRangeLemmas.{or_none}
-use Rattle.h5w_writer_open.proofs.SessionOver.{in_chunk, next_told, ready_index, starts_so}
+use Rattle.h5w_writer_open.proofs.SessionOver.{in_chunk, next_told, none_told, ready_index, starts_so}
 
 -- ---- What is read
 
@@ -76,6 +76,9 @@ unfit_part img o a e (inr h) = subst (λ g. IfRefusal (refusal_of g) (IsUnfit im
 
 pub dataset_first : (o : Opened) (a : Result IndexView NoIndex) (r : Result (Unit {0}) OpenError) (e : OpenError) → MatchOption (refused_dataset o) (r ≡ Ok tt) (λ f. r ≡ Err f) → r ≡ Err e → refused_part o a ≡ Some e
 dataset_first o a r e said is = next_told (refused_dataset o) (refused_index o.header.dataset a) r e said is
+
+pub dataset_passed : (o : Opened) (a : Result IndexView NoIndex) (r : Result (Unit {0}) OpenError) → MatchOption (refused_dataset o) (r ≡ Ok tt) (λ f. r ≡ Err f) → r ≡ Ok tt → refused_part o a ≡ refused_index o.header.dataset a
+dataset_passed o a r said is = none_told (refused_dataset o) (refused_index o.header.dataset a) r said is
 
 -- ---- Chunk 0 of its header
 

@@ -8,8 +8,8 @@ use Rattle.h5w_model.specs.Datasets.{Described, FoundMessage, body_of, described
 use Rattle.h5w_model.specs.declared.refusal.Unsupported.{Unsupported}
 use Rattle.h5w_model.proofs.CheckedLemmas.{checked-passed}
 use Rattle.h5w_laws.proofs.LoweringLemmas.{length_range}
-use Rattle.h5w_header_laws.proofs.DescribedLemmas.{parts_of}
-use Rattle.h5w_header_laws.proofs.ShapeLemmas.{by_rank}
+use Rattle.h5w_step_laws.proofs.HeaderDescribedLemmas.{parts_of}
+use Rattle.h5w_step_laws.proofs.ShapeLemmas.{by_rank}
 use Rattle.h5w_writer_open.specs.OpenSteps.{IsCut}
 
 -- ---- The shape

@@ -21,8 +21,8 @@ use Rattle.h5w_tree_index_laws.specs.TreeFlushes.{header_range}
 use Rattle.h5w_index.specs.Views.{IndexView, IsSound, address_in as index_address, an_array, a_tree, fixed_of, kind_of}
 use Rattle.h5w_index.specs.Blocks.{has_no_block}
 use Rattle.h5w_index.specs.Placing.{AreInside, Fits}
-use Rattle.h5w_visit_laws.specs.Ranges.{AllEndBy, block_at}
-use Rattle.h5w_visit_laws.proofs.RangeLemmas.{ends_cons, ends_nil}
+use Rattle.h5w_step_laws.specs.Ranges.{AllEndBy, block_at}
+use Rattle.h5w_step_laws.proofs.RangeLemmas.{ends_cons, ends_nil}
 use Rattle.h5w_chunks.specs.Grids.{chunk_len}
 use Rattle.h5w_chunks.specs.Shares.{first_line, touched}
 use Rattle.h5w_ea_index.specs.Ranges.{block_ranges, each_below, range_of_part, ranges_of_super_block}
@@ -108,6 +108,11 @@ unrefused_parts o a h =
 pub next_told : (told after : Option OpenError) (r : Result (Unit {0}) OpenError) (e : OpenError) → MatchOption told (r ≡ Ok tt) (λ f. r ≡ Err f) → r ≡ Err e → option_or told after ≡ Some e
 next_told None after r e said is = absurd (let clash : Ok tt ≡ Err e = sym said ∙ is in cc)
 next_told (Some f) after r e said is = let same : ◌≡◌ {A = Result (Unit {0}) OpenError} (Err f) (Err e) = sym said ∙ is in cc
+
+-- nothing was told, and what is told after it is all
+pub none_told : (told after : Option OpenError) (r : Result (Unit {0}) OpenError) → MatchOption told (r ≡ Ok tt) (λ f. r ≡ Err f) → r ≡ Ok tt → option_or told after ≡ after
+none_told None after r said is = refl
+none_told (Some f) after r said is = absurd (let clash : Ok tt ≡ Err f = sym is ∙ said in cc)
 
 -- what refuses the dataset, behind ranges that nothing refuses, comes first
 pub refused_next : (o : Opened) (a : Result IndexView NoIndex) (r : Result (Unit {0}) OpenError) (e : OpenError) → ranges_refused o a ≡ None

@@ -16,9 +16,9 @@ use Rattle.h5w_model.specs.declared.refusal.BlockFault.{BlockFault}
 use Rattle.h5w_model.specs.declared.refusal.ReadError.{ReadError}
 use Rattle.h5w_model.specs.declared.refusal.ReadError.TheVariants.{Damaged}
 use Rattle.h5w_laws.proofs.ResultLemmas.{HasAnswer, and_then_from}
-use Rattle.h5w_visit_laws.specs.Indexes.{IsIndex}
-use Rattle.h5w_visit_laws.specs.Ranges.{AllEndBy, chunk_at}
-use Rattle.h5w_visit_laws.proofs.RangeLemmas.{ends_left, ends_right}
+use Rattle.h5w_step_laws.specs.Indexes.{IsIndex}
+use Rattle.h5w_step_laws.specs.Ranges.{AllEndBy, chunk_at}
+use Rattle.h5w_step_laws.proofs.RangeLemmas.{ends_left, ends_right}
 use Rattle.h5w_space.specs.declared.Extent.{Extent}
 use Rattle.h5w_space.specs.Ranges.{range_at}
 use Rattle.h5w_bt.specs.declared.records.Record.{Record}

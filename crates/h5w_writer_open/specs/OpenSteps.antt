@@ -13,7 +13,7 @@ use Rattle.h5w_model.specs.declared.refusal.BlockFault.TheVariants.{Signature}
 use Rattle.h5w_model.specs.declared.refusal.ReadError.TheVariants.{Damaged}
 use Rattle.h5w_image.specs.View.{ImageView, Looked}
 use Rattle.h5w_looks.specs.Still.{IsStill}
-use Rattle.h5w_header_laws.specs.Files.{chunk_0}
+use Rattle.h5w_step_laws.specs.Files.{chunk_0}
 use Rattle.h5w_cache.specs.Stores.{Store}
 use Rattle.h5w_array_laws.specs.ArrayStores.{IsArray, header_place}
 use Rattle.h5w_bt_index.specs.Marks.{clean_of}

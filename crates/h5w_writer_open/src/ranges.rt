@@ -14,19 +14,17 @@ ghost use Rattle.h5w_writer_open.specs.OpenAnswers.{IsBlankOf, IsKeptIndexOf, Is
 ghost use Rattle.h5w_writer_open.specs.OpenSteps.{IfNamedIndex, IsNamedIndex};
 
 use crate::index::NoIndex;
-use h5w_bt::Record;
+use h5w_bt::{Bthd, Record};
 use h5w_bt_index::TreeIndex;
 use h5w_bytes::UNDEFINED;
 use h5w_dataset::Dataset;
+use h5w_ea::{CHUNKS, Eahd};
 use h5w_ea_index::ArrayIndex;
 use h5w_index::{Index, Key};
 use h5w_model::{BlockFault, IndexKind, OutOfMemory, ReadError};
 use h5w_opening::{OpenError, Opening, check};
 use h5w_space::Extent;
 use std::alloc::Global;
-
-/// How many chunks an array has at most.
-const CHUNKS: u64 = 131_060;
 
 /// How many ranges come first: chunk 0 of the dataset header, and an array's header and its index block, or the superblock and a tree's
 /// header.
@@ -36,10 +34,10 @@ const IN_PLACE: usize = 3;
 const SUPERBLOCK_LEN: u64 = 48;
 
 /// How many bytes an array's header has.
-const ARRAY_HEADER_LEN: u64 = 72;
+const ARRAY_HEADER_LEN: u64 = Eahd::LEN as u64;
 
 /// How many bytes a tree's header has.
-const TREE_HEADER_LEN: u64 = 38;
+const TREE_HEADER_LEN: u64 = Bthd::LEN as u64;
 
 /// Whether a range ends behind a place.
 fn ends_past(r: &Extent, end: u64) -> bool

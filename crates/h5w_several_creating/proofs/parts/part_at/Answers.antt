@@ -1,7 +1,7 @@
 use Rattle.std.proofs.Common.{◌+◌, ◌≤◌, ◌<◌, ◌^◌, length, sym, subst, arith}
 use Rattle.h5w_model.specs.Datasets.{Described}
 use Rattle.h5w_chunks.specs.Grids.{dataset_of}
-use Rattle.h5w_header_laws.specs.Spelled.{spelled_header}
+use Rattle.h5w_step_laws.specs.Spelled.{spelled_header}
 use Rattle.h5w_index.specs.Held.{view_of}
 use Rattle.h5w_creation.specs.Forms.{created_by}
 use Rattle.h5w_creation.proofs.FormLemmas.{creatable}

@@ -1,4 +1,5 @@
-use Rattle.std.proofs.Common.{rules, ◌≡◌, Err, List, Some, length, slice_get, subst, sym, ap, ◌∙◌, inl, inr, arith}
+use Rattle.std.proofs.Common.{◌≡◌, Err, List, Some, length, slice_get, subst, sym, ap, ◌∙◌, inl, inr, arith}
+use Rattle.std.proofs.lemmas.Result.{err_from_is_err_and}
 use Rattle.h5w_space.specs.declared.Full.{Full}
 use Rattle.h5w_chunks.specs.Grids.{dataset_of}
 use Rattle.h5w_chunks.specs.declared.grid.ChunkPlace.{ChunkPlace}
@@ -33,7 +34,8 @@ returns-in_err-place_chunks-clause-full c full told =
     let v = view_of a.index.now in
     let n = c.name_chunks.new in
     let e = c.in_err-place_chunks.field-0.0 in
-    let is : c.from_residual-in_err-place_chunks.result ≡ Err e = search rules in
+    let gone = err_from_is_err_and c.from_residual-in_err-place_chunks.result c.from_residual-in_err-place_chunks.ensures.1 in
+    let is : c.from_residual-in_err-place_chunks.result ≡ Err e = gone.1 ∙ ap (λ x. Err x) gone.2 in
     let same : e ≡ flushes.Space full = same_error e (flushes.Space full) (sym is ∙ told) in
     let named = named_as d a.to v (view_of n.index) a.early.now n.taking.chunks.items n.taking.added.items c.in_ok-name_chunks.ensures.chunks c.in_ok-name_chunks.ensures.named in
     let taken = taken_as d (address_in v) a.early.now n.taking.chunks.items a.taking.now.places n.taking.places c.in_ok-name_chunks.ensures.chunks c.name_chunks.ensures.places in
@@ -46,7 +48,8 @@ returns-in_err-place_chunks-clause-deep c told =
     let v = view_of a.index.now in
     let n = c.name_chunks.new in
     let e = c.in_err-place_chunks.field-0.0 in
-    let is : c.from_residual-in_err-place_chunks.result ≡ Err e = search rules in
+    let gone = err_from_is_err_and c.from_residual-in_err-place_chunks.result c.from_residual-in_err-place_chunks.ensures.1 in
+    let is : c.from_residual-in_err-place_chunks.result ≡ Err e = gone.1 ∙ ap (λ x. Err x) gone.2 in
     let same : e ≡ flushes.Deep = same_error e flushes.Deep (sym is ∙ told) in
     let named = named_as d a.to v (view_of n.index) a.early.now n.taking.chunks.items n.taking.added.items c.in_ok-name_chunks.ensures.chunks c.in_ok-name_chunks.ensures.named in
     c.place_chunks.ensures.deep (c.in_err-place_chunks.was ∙ ap (λ x. Err x) same) v c.requires.fits c.name_chunks.ensures.roomy named
@@ -59,7 +62,8 @@ returns-in_err-begun-clause-full c full is =
     let n = c.name_chunks.new in
     let held = view_of c.place_chunks.new.index in
     let between = c.place_chunks.new.taking.places in
-    let told : c.from_residual-in_err-begun.result ≡ Err (plan_fault c.in_err-begun.field-0.0) = search rules in
+    let gone = err_from_is_err_and c.from_residual-in_err-begun.result c.from_residual-in_err-begun.ensures.1 in
+    let told : c.from_residual-in_err-begun.result ≡ Err (plan_fault c.in_err-begun.field-0.0) = gone.1 ∙ ap (λ x. Err x) gone.2 in
     let named = named_as d a.to v (view_of n.index) a.early.now n.taking.chunks.items n.taking.added.items c.in_ok-name_chunks.ensures.chunks c.in_ok-name_chunks.ensures.named in
     let taken = taken_as d (address_in v) a.early.now n.taking.chunks.items a.taking.now.places n.taking.places c.in_ok-name_chunks.ensures.chunks c.name_chunks.ensures.places in
     inr (record {

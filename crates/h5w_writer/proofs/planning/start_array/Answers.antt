@@ -1,4 +1,5 @@
-use Rattle.std.proofs.Common.{◌≡◌, Err, rules, ◌∙◌, sym, subst}
+use Rattle.std.proofs.Common.{◌≡◌, Err, ◌∙◌, sym, subst, ap}
+use Rattle.std.proofs.lemmas.Result.{err_from_is_err_and}
 use Rattle.h5w_model.specs.declared.cell.IndexKind.TheVariants.{Array}
 use Rattle.h5w_index.specs.Held.{view_of}
 use Rattle.h5w_writer.specs.Refusals.{IsUnplaced}
@@ -9,7 +10,8 @@ use Rattle.h5w_writer.proofs.planning.start_array.Goals as goal
 pub returns-in_err-header-clause-full : goal.returns-in_err-header-clause-full
 returns-in_err-header-clause-full c full told =
     let e = c.in_err-header.field-0.0 in
-    let is : c.from_residual.result ≡ Err (flushes.Space e) = search rules in
+    let gone = err_from_is_err_and c.from_residual.result c.from_residual.ensures.1 in
+    let is : c.from_residual.result ≡ Err (flushes.Space e) = gone.1 ∙ ap (λ x. Err x) gone.2 in
     subst (IsUnplaced Array c.args.address c.args.places.now) (same_full e full (sym is ∙ told)) c.in_err-header.ensures.full
 
 pub returns-clause-started : goal.returns-clause-started

@@ -1,4 +1,5 @@
-use Rattle.std.proofs.Common.{◌≡◌, Err, refl, rules, arith}
+use Rattle.std.proofs.Common.{◌≡◌, Err, refl, arith, ◌∙◌, ap}
+use Rattle.std.proofs.lemmas.Result.{err_from_is_err_and}
 use Rattle.h5w_model.specs.Numbers.{undefined}
 use Rattle.h5w_cache.specs.Plans.{Took}
 use Rattle.h5w_space.specs.Space.{extent}
@@ -17,7 +18,8 @@ new_tree-requires c =
 pub returns-in_err-header-clause-full : goal.returns-in_err-header-clause-full
 returns-in_err-header-clause-full c =
     let e = c.in_err-header.field-0.0 in
-    let is : c.from_residual.result ≡ Err e = search rules in
+    let gone = err_from_is_err_and c.from_residual.result c.from_residual.ensures.1 in
+    let is : c.from_residual.result ≡ Err e = gone.1 ∙ ap (λ x. Err x) gone.2 in
     rw is (refused_so c.args.places.now 38 e c.in_err-header.ensures.refused c.in_err-header.ensures.full)
 
 pub returns-clause-started : goal.returns-clause-started

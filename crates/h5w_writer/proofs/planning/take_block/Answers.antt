@@ -1,4 +1,5 @@
-use Rattle.std.proofs.Common.{◌≡◌, Err, refl, rules, arith}
+use Rattle.std.proofs.Common.{◌≡◌, Err, refl, arith, ◌∙◌, ap}
+use Rattle.std.proofs.lemmas.Result.{err_from_is_err_and}
 use Rattle.h5w_cache.specs.Plans.{Took}
 use Rattle.h5w_space.specs.Space.{extent}
 use Rattle.h5w_index.proofs.RaisedLemmas.{raised_more, raised_one}
@@ -10,7 +11,8 @@ use Rattle.h5w_writer.proofs.planning.take_block.Goals as goal
 pub returns-in_err-block-clause-full : goal.returns-in_err-block-clause-full
 returns-in_err-block-clause-full c =
     let e = c.in_err-block.field-0.0 in
-    let is : c.from_residual.result ≡ Err e = search rules in
+    let gone = err_from_is_err_and c.from_residual.result c.from_residual.ensures.1 in
+    let is : c.from_residual.result ≡ Err e = gone.1 ∙ ap (λ x. Err x) gone.2 in
     rw is (no_block (refused_so c.args.places.now 298 e c.in_err-block.ensures.refused c.in_err-block.ensures.full))
 
 pub returns-clause-taken : goal.returns-clause-taken

@@ -1,4 +1,5 @@
-use Rattle.std.proofs.Common.{rules, ◌≡◌, ◌∙◌, [], List, length, sym, refl, subst, arith}
+use Rattle.std.proofs.Common.{rules, ◌≡◌, ◌∙◌, [], List, length, sym, refl, subst, arith, ap, Err}
+use Rattle.std.proofs.lemmas.Result.{err_from_is_err_and}
 use Rattle.std.proofs.lemmas.List.{take_all}
 use Rattle.h5w_model.specs.Logs.{div_up}
 use Rattle.h5w_model.specs.Tables.{keys_across}
@@ -95,7 +96,8 @@ returns-in_err-name_chunk-clause-deep c is =
     let count : c.len.result ≡ length chunks = search rules in
     let step = early_next d c.args.to l.place-index c.len.result v c.args.early.now key chunks (is_cut c.args.grid.now c.requires.grid) c.requires.known c.requires.early inv.chunks
     c.loop-place-test.true count c.touched_key-key.ensures.exact in
-    let same : c.name_chunk.result ≡ c.from_residual.result = search rules in
+    let gone = err_from_is_err_and c.from_residual.result c.from_residual.ensures.1 in
+    let same : c.name_chunk.result ≡ c.from_residual.result = c.in_err-name_chunk.was ∙ sym (gone.1 ∙ ap (λ x. Err x) gone.2) in
     let told = c.name_chunk.ensures.deep (same ∙ is) in
     record {
       chunks = chunks;

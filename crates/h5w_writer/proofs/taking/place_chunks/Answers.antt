@@ -1,4 +1,5 @@
-use Rattle.std.proofs.Common.{rules, ◌≡◌, length, ◌∙◌, subst, arith}
+use Rattle.std.proofs.Common.{rules, ◌≡◌, length, ◌∙◌, subst, arith, ap, Err, sym}
+use Rattle.std.proofs.lemmas.Result.{err_from_is_err_and}
 use Rattle.h5w_model.specs.Logs.{div_up}
 use Rattle.h5w_model.specs.Tables.{keys_across}
 use Rattle.h5w_chunks.specs.Grids.{dataset_of}
@@ -91,7 +92,8 @@ returns-in_err-place_chunk-clause-full c full is v early s fits within x y =
     let added = c.loop-k.taking.added.items in
     let key = c.touched_key-key.result in
     let next = next_in d c.args.to c.loop-k.k c.touched-k-end.result key c.touched_band-band.result chunks (is_cut c.args.grid.now c.requires.grid) c.touched-k-end.ensures c.loop-k-test.true inv.count c.touched_key-key.ensures.exact c.touched_band-band.ensures in
-    let same : c.place_chunk.result ≡ c.from_residual.result = search rules in
+    let gone = err_from_is_err_and c.from_residual.result c.from_residual.ensures.1 in
+    let same : c.place_chunk.result ≡ c.from_residual.result = c.in_err-place_chunk.was ∙ sym (gone.1 ∙ ap (λ x. Err x) gone.2) in
     let told = c.place_chunk.ensures.full full (same ∙ is) in
     let named = inv.named v fits x in
     record {
@@ -115,7 +117,8 @@ returns-in_err-place_chunk-clause-deep c is v fits roomy x =
     let added = c.loop-k.taking.added.items in
     let key = c.touched_key-key.result in
     let next = next_in d c.args.to c.loop-k.k c.touched-k-end.result key c.touched_band-band.result chunks (is_cut c.args.grid.now c.requires.grid) c.touched-k-end.ensures c.loop-k-test.true inv.count c.touched_key-key.ensures.exact c.touched_band-band.ensures in
-    let same : c.place_chunk.result ≡ c.from_residual.result = search rules in
+    let gone = err_from_is_err_and c.from_residual.result c.from_residual.ensures.1 in
+    let same : c.place_chunk.result ≡ c.from_residual.result = c.in_err-place_chunk.was ∙ sym (gone.1 ∙ ap (λ x. Err x) gone.2) in
     let told = c.place_chunk.ensures.deep (same ∙ is) in
     let named = inv.named v fits x in
     record {

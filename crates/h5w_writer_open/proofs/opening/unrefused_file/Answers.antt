@@ -1,4 +1,5 @@
-use Rattle.std.proofs.Common.{◌≡◌, Bool, Err, rules, sym, subst}
+use Rattle.std.proofs.Common.{◌≡◌, Bool, Err, sym, subst, ◌∙◌, ap}
+use Rattle.std.proofs.lemmas.Result.{err_from_is_err_and}
 use Rattle.h5w_headers.specs.Ran.{seen}
 use Rattle.h5w_index.specs.Held.{view_of}
 use Rattle.h5w_opening.specs.Views.{opened_of}
@@ -15,7 +16,8 @@ returns-in_err-index-clause-step g c =
     let a = c.args in
     let o = opened_of c.in_ok-found.found in
     let e = c.in_err-index.field-0.0 in
-    let is : c.from_residual-in_err-index.result ≡ Err e = search rules in
+    let gone = err_from_is_err_and c.from_residual-in_err-index.result c.from_residual-in_err-index.ensures.1 in
+    let is : c.from_residual-in_err-index.result ≡ Err e = gone.1 ∙ ap (λ x. Err x) gone.2 in
     rw is (step_refused (file_good a.size a.name.now) (not_opened a.size a.name.now) (c.in_ok-found.found, c.in_ok-found.index) e c.in_ok-found.ensures.step
     (first_quiet o (seen view_of c.in_ok-found.index) e c.in_err-index.ensures.first) (λ img f. refused_file img a.size a.name.now o (seen view_of c.in_ok-found.index) e f c.in_err-index.ensures.first))
 
@@ -24,7 +26,8 @@ returns-in_err-header-clause-step g c =
     let a = c.args in
     let o = opened_of c.in_ok-found.found in
     let e = c.in_err-header.field-0.0 in
-    let is : c.from_residual-in_err-header.result ≡ Err e = search rules in
+    let gone = err_from_is_err_and c.from_residual-in_err-header.result c.from_residual-in_err-header.ensures.1 in
+    let is : c.from_residual-in_err-header.result ≡ Err e = gone.1 ∙ ap (λ x. Err x) gone.2 in
     rw is (step_then_stop (file_good a.size a.name.now) (not_opened a.size a.name.now) (c.in_ok-found.found, c.in_ok-found.index) e c.in_ok-found.ensures.step c.in_err-header.ensures.step
     (λ img f x no. absurd (no (subst (λ (b : Bool). IsKeptHeader b (front_of img o.place o.header.len)) (sym c.is_starting-starts.ensures) (writable_front img a.size a.name.now o (seen view_of c.in_ok-found.index) f.is c.in_ok-index.ensures.none)))))
 

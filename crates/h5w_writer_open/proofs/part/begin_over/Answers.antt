@@ -1,4 +1,5 @@
-use Rattle.std.proofs.Common.{◌≡◌, Bool, Ok, Err, sym, subst, rules}
+use Rattle.std.proofs.Common.{◌≡◌, Bool, Err, sym, subst, ◌∙◌, ap}
+use Rattle.std.proofs.lemmas.Result.{err_from_is_err_and}
 use Rattle.h5w_headers.specs.Ran.{seen}
 use Rattle.h5w_index.specs.Held.{view_of}
 use Rattle.h5w_opening.specs.Views.{opened_of}
@@ -14,7 +15,8 @@ returns-in_err-index-clause-step g c =
     let a = c.args in
     let o = opened_of a.found.now in
     let e = c.in_err-index.field-0.0 in
-    let is : c.from_residual.result ≡ Err e = search rules in
+    let gone = err_from_is_err_and c.from_residual.result c.from_residual.ensures.1 in
+    let is : c.from_residual.result ≡ Err e = gone.1 ∙ ap (λ x. Err x) gone.2 in
     rw is (step_none _ _ e (part_is_quiet o (seen view_of a.index) e c.requires.read.within c.in_err-index.ensures.first) (λ img. unfit_part img o (seen view_of a.index) e c.in_err-index.ensures.first))
 
 pub returns-in_err-header-clause-step : goal.returns-in_err-header-clause-step
@@ -22,7 +24,8 @@ returns-in_err-header-clause-step g c =
     let a = c.args in
     let o = opened_of a.found.now in
     let e = c.in_err-header.field-0.0 in
-    let is : c.from_residual-in_err-header.result ≡ Err e = search rules in
+    let gone = err_from_is_err_and c.from_residual-in_err-header.result c.from_residual-in_err-header.ensures.1 in
+    let is : c.from_residual-in_err-header.result ≡ Err e = gone.1 ∙ ap (λ x. Err x) gone.2 in
     rw is (step_stop _ _ e c.in_err-header.ensures.step
     (λ img f no found. absurd (no (subst (λ (b : Bool). IsKeptHeader b (front_of img o.place o.header.len)) (sym c.is_starting-starts.ensures) (header_kept_at img o (seen view_of a.index) c.in_ok-index.ensures.none found)))))
 
@@ -34,7 +37,8 @@ session_over-requires-clause-ready g c =
 
 pub returns-in_err-session-clause-step : goal.returns-in_err-session-clause-step
 returns-in_err-session-clause-step g c =
-    let is : c.from_residual-in_err-session.result ≡ Err OutOfMemory = search rules in
+    let gone = err_from_is_err_and c.from_residual-in_err-session.result c.from_residual-in_err-session.ensures.1 in
+    let is : c.from_residual-in_err-session.result ≡ Err OutOfMemory = gone.1 ∙ ap (λ x. Err x) gone.2 in
     rw is (step_refused _ _ c.in_ok-header.header OutOfMemory c.in_ok-header.ensures.step memory_quiet (λ img p. tt))
 
 pub returns-clause-step : goal.returns-clause-step

@@ -2,16 +2,16 @@ use Rattle.std.proofs.Common.{arith, false, ◌≡◌, ◌∙◌, ap, sym, subst
 use Rattle.h5w_model.specs.declared.piece.Write.{Write}
 use Rattle.h5w_model.specs.declared.root.Super.{Super}
 use Rattle.h5w_chunks.specs.Grids.{dataset_of}
-use Rattle.h5w_header_laws.specs.Spelled.{spelled_header}
+use Rattle.h5w_step_laws.specs.Spelled.{spelled_header}
 use Rattle.h5w_index.specs.Held.{view_of}
 use Rattle.h5w_creation.specs.Forms.{created_by}
 use Rattle.h5w_creation.specs.Made.{IsNewIndex}
 use Rattle.h5w_creation_laws.specs.CreatedFiles.{CreatedFile, block_place, created_log, created_writes, described_of, end_of, header_place, index_place, super_of}
 use Rattle.h5w_writer.specs.Sessions.{ArePieces, IsSession, Session}
 use Rattle.h5w_writer.specs.Creations.{IsIndexOf, IsLimit, created, places_to}
-use Rattle.h5w_form.specs.NewFiles.{new_file}
+use Rattle.h5w_creation.specs.NewFiles.{new_file}
 use Rattle.h5w_writer.specs.Stands.{Stands}
-use Rattle.h5w_form.proofs.OptionLemmas.{creatable}
+use Rattle.h5w_creation.proofs.OptionLemmas.{creatable}
 use Rattle.h5w_writer.proofs.SessionStarts.{created_is, created_pieces}
 use Rattle.h5w_writer.proofs.CreatingLemmas.{creation_begins}
 use Rattle.h5w_writer.proofs.state.WriterCore.create.Goals as goal

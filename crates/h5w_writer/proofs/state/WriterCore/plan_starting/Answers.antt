@@ -1,4 +1,5 @@
-use Rattle.std.proofs.Common.{◌≡◌, ◌<◌, ◌-◌, ◌*◌, ◌^◌, ◌∙◌, ℕ, List, Some, Err, refl, ap, sym, subst, arith, rules}
+use Rattle.std.proofs.Common.{◌≡◌, ◌<◌, ◌-◌, ◌*◌, ◌^◌, ◌∙◌, ℕ, List, Some, Err, refl, ap, sym, subst, arith}
+use Rattle.std.proofs.lemmas.Result.{err_from_is_err_and}
 use Rattle.std.specs.List.{slice_get}
 use Rattle.h5w_model.specs.Tables.{keys_across}
 use Rattle.h5w_chunks.proofs.Geometry.{is_cut}
@@ -23,7 +24,8 @@ returns-in_err-index-clause-full c full told =
     let i = c.self.inside in
     let v = session_of i in
     let e = c.in_err-index.field-0.0 in
-    let is : c.from_residual.result ≡ Err e = search rules in
+    let gone = err_from_is_err_and c.from_residual.result c.from_residual.ensures.1 in
+    let is : c.from_residual.result ≡ Err e = gone.1 ∙ ap (λ x. Err x) gone.2 in
     start_unplaced v c.args.taking.places full (c.requires.places ∙ ap (λ (s : Session). s.places) (sym c.self.view_is)) (c.in_err-index.ensures.full full (same_error e _ (sym is ∙ told))) c.args.self.now c.self.view_is
 
 pub start_index-requires-clause-head : goal.start_index-requires-clause-head
