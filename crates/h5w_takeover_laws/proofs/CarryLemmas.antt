@@ -15,8 +15,8 @@ use Rattle.h5w_model.specs.Superblock.{super_at}
 use Rattle.h5w_model.specs.Tables.{Reading, Reads, Shows, format_limits}
 use Rattle.h5w_model.specs.declared.piece.Write.{Write}
 use Rattle.h5w_model.specs.declared.root.Super.{Super}
-use Rattle.h5w_visit_laws.specs.Ranges.{AllAmong, Among}
-use Rattle.h5w_visit_laws.proofs.RangeLemmas.{among_left, among_right, among_split}
+use Rattle.h5w_step_laws.specs.Ranges.{AllAmong, Among}
+use Rattle.h5w_step_laws.proofs.RangeLemmas.{among_left, among_right, among_split}
 use Rattle.h5w_space.specs.Space.{Space}
 use Rattle.h5w_step_laws.specs.Logs.{Goes, image_now}
 use Rattle.h5w_step_laws.specs.Moments.{Moment, Represents, front_of, reading_of}

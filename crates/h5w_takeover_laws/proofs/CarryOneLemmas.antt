@@ -4,7 +4,7 @@ use Rattle.h5w_model.specs.Logs.{Log, hist}
 use Rattle.h5w_model.specs.declared.piece.Write.{Write}
 use Rattle.h5w_step_laws.specs.Logs.{image_now}
 use Rattle.h5w_step_laws.specs.Moments.{Moment, Represents}
-use Rattle.h5w_header_laws.specs.Files.{chunk_0}
+use Rattle.h5w_step_laws.specs.Files.{chunk_0}
 use Rattle.h5w_creation_laws.specs.CreatedFiles.{CreatedFile, created_blocks, created_writes}
 use Rattle.h5w_writer.specs.Openings.{IsOver}
 use Rattle.h5w_writer.specs.Sessions.{Session}

@@ -1,10 +1,9 @@
 pub mod RefusedLemmas
-pub mod FrontLemmas
-pub mod RestartLemmas
-pub mod AnewLemmas
-pub mod AllRefusedLemmas
-pub mod CarryOneLemmas
-pub mod CarryLemmas
+mod RestartLemmas
+mod AnewLemmas
+mod AllRefusedLemmas
+mod CarryOneLemmas
+mod CarryLemmas
 pub mod CarryAllLemmas
 pub mod AlikeLemmas
 pub mod OneLemmas

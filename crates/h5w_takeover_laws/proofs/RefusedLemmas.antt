@@ -15,12 +15,12 @@ use Rattle.h5w_model.specs.Tables.{Shows, format_limits, limit_of, needed}
 use Rattle.h5w_model.specs.declared.root.Super.{Super}
 use Rattle.h5w_model.specs.declared.refusal.ReadError.TheVariants as read_errors
 use Rattle.h5w_laws.proofs.ResultLemmas.{then_ok}
-use Rattle.h5w_visit_laws.proofs.HeaderLaws.{DatasetParts, RootParts, dataset_parts, root_parts}
+use Rattle.h5w_step_laws.proofs.HeaderLaws.{DatasetParts, RootParts, dataset_parts, root_parts}
 use Rattle.h5w_step_laws.specs.Moments.{Moment, Represents, reading_of}
 use Rattle.h5w_step_laws.proofs.FoundLemmas.{moment_shows, opens}
 use Rattle.h5w_step_laws.proofs.MomentLemmas.{root_at, super_parts}
-use Rattle.h5w_header_laws.specs.Files.{LayoutInChunk0, chunk_0}
-use Rattle.h5w_header_laws.proofs.DescribedLemmas.{layout_of}
+use Rattle.h5w_step_laws.specs.Files.{LayoutInChunk0, chunk_0}
+use Rattle.h5w_step_laws.proofs.HeaderDescribedLemmas.{layout_of}
 use Rattle.h5w_creation_laws.specs.CreatedFiles.{created_blocks}
 use Rattle.h5w_index.specs.Views.{IndexView}
 use Rattle.h5w_headers.specs.Walks.{dataset_header_for, root_header_for}

@@ -15,7 +15,7 @@ use Rattle.h5w_step_laws.proofs.GoesLemmas.{image_last, past_now, reads_now}
 use Rattle.h5w_step_laws.proofs.MomentLemmas.{few}
 use Rattle.h5w_step_laws.proofs.SessionLaws.{goes_runs}
 use Rattle.h5w_chunks.specs.declared.grid.ChunkPlace.{ChunkPlace}
-use Rattle.h5w_visit_laws.specs.Needed.{AreFew}
+use Rattle.h5w_step_laws.specs.Needed.{AreFew}
 use Rattle.h5w_flush_laws.specs.Flushes.{IsBegun, Rests}
 use Rattle.h5w_flush_laws.specs.Knowledge.{KnownHeld}
 use Rattle.h5w_index.specs.Views.{address_in}

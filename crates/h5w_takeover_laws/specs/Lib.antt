@@ -1,5 +1,4 @@
 pub mod Refused
-pub mod Fronts
 pub mod Restarts
 pub mod Several
 pub mod One

@@ -2,11 +2,9 @@
 //! parameters; its statement is a definition in specs/. Nothing here runs.
 #![tactic(auto)]
 
-mod fronts;
 mod one;
 mod several;
 
-pub use fronts::taken_writes;
 pub use one::{
     answers_one, answers_session, begun_reopens, carries, carries_one, created_told, never_refused,
     taken_is_begun, taken_runs,

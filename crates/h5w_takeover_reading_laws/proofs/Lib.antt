@@ -1,2 +1,2 @@
-pub mod AcrossLemmas
-pub mod SeatLemmas
+mod AcrossLemmas
+mod SeatLemmas
