@@ -35,6 +35,7 @@ answers_same given (Err (errors.Line n)) e = e
 answers_same given (Err (errors.Range n i v)) e = e
 answers_same given (Err (errors.Input n)) e = e
 answers_same given (Err errors.Disk) e = tt
+answers_same given (Err errors.Image) e = e
 answers_same given (Err errors.Source) e = e
 answers_same given (Err errors.Memory) e = tt
 
@@ -72,6 +73,7 @@ good_status given (Err (errors.Line n)) a good is quiet = absurd (cc)
 good_status given (Err (errors.Range n i v)) a good is quiet = absurd (cc)
 good_status given (Err (errors.Input n)) a good is quiet = absurd (cc)
 good_status given (Err errors.Disk) a good is quiet = absurd (quiet refl)
+good_status given (Err errors.Image) a good is quiet = absurd (cc)
 good_status given (Err errors.Source) a good is quiet = absurd (cc)
 good_status given (Err errors.Memory) a good is quiet = inr refl
 

@@ -3,7 +3,7 @@ pub mod ClearLemmas
 pub mod CheckLemmas
 pub mod ImageLemmas
 pub mod SinkLemmas
-pub mod PollLemmas
-pub mod OnceLemmas
-pub mod TimesLemmas
+mod PollLemmas
+mod OnceLemmas
+mod TimesLemmas
 pub mod PollEndLemmas

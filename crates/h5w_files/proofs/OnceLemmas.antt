@@ -49,6 +49,7 @@ before_count img values printed p (errors.Line n) k h = absurd k
 before_count img values printed p (errors.Range n i v) k h = absurd k
 before_count img values printed p (errors.Input n) k h = absurd k
 before_count img values printed p errors.Disk k h = calls.before errors.Disk (inl refl)
+before_count img values printed p errors.Image k h = absurd k
 before_count img values printed p errors.Source k h = absurd k
 before_count img values printed p errors.Memory k h = calls.before errors.Memory (inr refl)
 
@@ -145,6 +146,7 @@ behind_count img values printed rows p r (errors.Range n i v) gives is asked k h
 behind_count img values printed rows p r (errors.Input n) gives is asked k h = absurd k
 behind_count img values printed rows p r errors.Disk gives is asked k h =
     subst (λ n. OnceRefused img values printed p errors.Disk (count_text n)) (sym is) (calls.behind r errors.Disk (inl refl) gives)
+behind_count img values printed rows p r errors.Image gives is asked k h = absurd k
 behind_count img values printed rows p r errors.Source gives is asked k h = absurd k
 behind_count img values printed rows p r errors.Memory gives is asked k h =
     subst (λ n. OnceRefused img values printed p errors.Memory (count_text n)) (sym is) (calls.behind r errors.Memory (inr refl) gives)

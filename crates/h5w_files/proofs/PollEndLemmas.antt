@@ -93,6 +93,7 @@ call_kind (errors.Line n) h = absurd h
 call_kind (errors.Range n i v) h = absurd h
 call_kind (errors.Input n) h = absurd h
 call_kind errors.Disk h = tt
+call_kind errors.Image h = absurd h
 call_kind errors.Source h = absurd h
 call_kind errors.Memory h = tt
 

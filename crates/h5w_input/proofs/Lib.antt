@@ -1,4 +1,4 @@
-pub mod WordLemmas
+mod WordLemmas
 pub mod LineLemmas
-pub mod NumberLemmas
+mod NumberLemmas
 pub mod ScriptLemmas

@@ -1,4 +1,4 @@
-pub mod StreamLemmas
-pub mod ValueLemmas
-pub mod TableLemmas
-pub mod HexLemmas
+mod StreamLemmas
+mod ValueLemmas
+mod TableLemmas
+mod HexLemmas

@@ -1,9 +1,9 @@
 -- The texts of error lines; each is a line.
-use Rattle.std.specs.Prelude.{ℕ, List, [], ◌∷◌, ◌++◌, codes}
+use Rattle.std.specs.Prelude.{ℕ, Bool, true, false, List, [], ◌∷◌, ◌++◌, codes}
 use Rattle.h5w_text.specs.Replies.{spaced, spaced_value}
 use Rattle.h5w_text.specs.Refusals.{refusal_words}
 use Rattle.h5w_text.specs.declared.error.ErrorLine.{ErrorLine}
-use Rattle.h5w_text.specs.declared.error.ErrorLine.TheVariants.{Usage, Missing, Exists, Read, Finding, Overlap, Cut, WriterVersion, Layout, ChunkBytes, NoColumns, Same, FullChunks, FullSpace, Deep, Line, Range, Input, Disk, Source, Memory}
+use Rattle.h5w_text.specs.declared.error.ErrorLine.TheVariants.{Usage, Missing, Exists, Read, Finding, Overlap, Cut, WriterVersion, Layout, ChunkBytes, NoColumns, Same, FullChunks, FullSpace, Deep, Line, Range, Input, Disk, Image, Source, Memory}
 
 -- the text of an error, without the byte 0a that ends it
 abbrev pub error_words : ErrorLine → List ℕ
@@ -26,8 +26,23 @@ error_words (Line line) = codes "error line" ++ spaced line
 error_words (Range line index value) = codes "error range" ++ spaced line ++ spaced index ++ spaced_value value
 error_words (Input limit) = codes "error input" ++ spaced limit
 error_words Disk = codes "error disk"
+error_words Image = codes "error image"
 error_words Source = codes "error source"
 error_words Memory = codes "error memory"
 
 abbrev pub error_text : ErrorLine → List ℕ
 error_text error = error_words error ++ 10 ∷ []
+
+-- the line tells no more than the error's kind
+abbrev pub is_fixed : ErrorLine → Bool
+is_fixed Usage = true
+is_fixed Missing = true
+is_fixed Exists = true
+is_fixed Layout = true
+is_fixed NoColumns = true
+is_fixed Deep = true
+is_fixed Disk = true
+is_fixed Image = true
+is_fixed Source = true
+is_fixed Memory = true
+is_fixed error = false

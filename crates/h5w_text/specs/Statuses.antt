@@ -57,5 +57,6 @@ status_of (errors.Line line) = Input
 status_of (errors.Range line index value) = Input
 status_of (errors.Input limit) = Input
 status_of errors.Disk = Disk
+status_of errors.Image = Disk
 status_of errors.Source = Source
 status_of errors.Memory = Memory

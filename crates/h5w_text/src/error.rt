@@ -1,5 +1,5 @@
-ghost use Rattle.std.specs.Prelude.{◌≡◌, ◌++◌, OnOk};
-ghost use Rattle.h5w_text.specs.Errors.{error_text, error_words};
+ghost use Rattle.std.specs.Prelude.{◌≡◌, ◌++◌, false, is_some, IfSome, OnOk};
+ghost use Rattle.h5w_text.specs.Errors.{error_text, error_words, is_fixed};
 ghost use Rattle.h5w_text.specs.Statuses.{refusal_status, status_of};
 
 use crate::digits::{text, value};
@@ -74,6 +74,8 @@ pub enum ErrorLine {
         limit: u64,
     },
     Disk,
+    /// The image that threads share has given all its turns.
+    Image,
     Source,
     Memory,
 }
@@ -118,7 +120,7 @@ impl ErrorLine {
                 Status::Limit
             }
             ErrorLine::Line(_) | ErrorLine::Range { .. } | ErrorLine::Input { .. } => Status::Input,
-            ErrorLine::Disk => Status::Disk,
+            ErrorLine::Disk | ErrorLine::Image => Status::Disk,
             ErrorLine::Source => Status::Source,
             ErrorLine::Memory => Status::Memory,
         }
@@ -133,14 +135,43 @@ fn range(out: &mut Vec<u8>, line: u64, index: u64, v: i128) -> Result<(), OutOfM
     value(out, v)
 }
 
-/// Adds the text of an error, without the byte 0a.
+/// The line of an error that tells no more than its kind, with the byte 0a that ends it. None: it tells more.
+pub fn fixed(error: &ErrorLine) -> Option<&'static [u8]>
+    ensures line { IfSome result (λ line. line.now ≡ error_text error.now) }
+    ensures some { is_some result ≡ is_fixed error.now }
+{
+    match error {
+        ErrorLine::Usage => Some(b"error usage\n"),
+        ErrorLine::Missing => Some(b"error missing\n"),
+        ErrorLine::Exists => Some(b"error exists\n"),
+        ErrorLine::Layout => Some(b"error writer layout\n"),
+        ErrorLine::NoColumns => Some(b"error writer columns\n"),
+        ErrorLine::Deep => Some(b"error deep\n"),
+        ErrorLine::Disk => Some(b"error disk\n"),
+        ErrorLine::Image => Some(b"error image\n"),
+        ErrorLine::Source => Some(b"error source\n"),
+        ErrorLine::Memory => Some(b"error memory\n"),
+        ErrorLine::Read(_)
+        | ErrorLine::Finding { .. }
+        | ErrorLine::Overlap { .. }
+        | ErrorLine::Cut { .. }
+        | ErrorLine::WriterVersion(_)
+        | ErrorLine::ChunkBytes(_)
+        | ErrorLine::Same { .. }
+        | ErrorLine::FullChunks { .. }
+        | ErrorLine::FullSpace { .. }
+        | ErrorLine::Line(_)
+        | ErrorLine::Range { .. }
+        | ErrorLine::Input { .. } => None,
+    }
+}
+
+/// Adds the text of an error that tells more than its kind, without the byte 0a.
 fn words(out: &mut Vec<u8>, error: &ErrorLine) -> Result<(), OutOfMemory>
+    requires { is_fixed error.now ≡ false }
     ensures { OnOk result (out.new.items ≡ out.old.items ++ error_words error.now) }
 {
     match error {
-        ErrorLine::Usage => text(out, b"error usage"),
-        ErrorLine::Missing => text(out, b"error missing"),
-        ErrorLine::Exists => text(out, b"error exists"),
         ErrorLine::Read(error) => refusal(out, *error),
         ErrorLine::Finding { kind, at } => {
             with_numbers(out, b"finding", &[u64::from(*kind), *at])
@@ -155,9 +186,7 @@ fn words(out: &mut Vec<u8>, error: &ErrorLine) -> Result<(), OutOfMemory>
         ErrorLine::WriterVersion(version) => {
             with_numbers(out, b"error writer version", &[u64::from(*version)])
         }
-        ErrorLine::Layout => text(out, b"error writer layout"),
         ErrorLine::ChunkBytes(bytes) => with_numbers(out, b"error writer chunk", &[*bytes]),
-        ErrorLine::NoColumns => text(out, b"error writer columns"),
         ErrorLine::Same { first, second } => {
             with_numbers(out, b"error writer same", &[*first, *second])
         }
@@ -167,13 +196,19 @@ fn words(out: &mut Vec<u8>, error: &ErrorLine) -> Result<(), OutOfMemory>
         ErrorLine::FullSpace { at, size, limit } => {
             with_numbers(out, b"error full space", &[*at, *size, *limit])
         }
-        ErrorLine::Deep => text(out, b"error deep"),
         ErrorLine::Line(line) => with_numbers(out, b"error line", &[*line]),
         ErrorLine::Range { line, index, value } => range(out, *line, *index, *value),
         ErrorLine::Input { limit } => with_numbers(out, b"error input", &[*limit]),
-        ErrorLine::Disk => text(out, b"error disk"),
-        ErrorLine::Source => text(out, b"error source"),
-        ErrorLine::Memory => text(out, b"error memory"),
+        ErrorLine::Usage
+        | ErrorLine::Missing
+        | ErrorLine::Exists
+        | ErrorLine::Layout
+        | ErrorLine::NoColumns
+        | ErrorLine::Deep
+        | ErrorLine::Disk
+        | ErrorLine::Image
+        | ErrorLine::Source
+        | ErrorLine::Memory => unreachable!(),
     }
 }
 
@@ -181,6 +216,11 @@ fn words(out: &mut Vec<u8>, error: &ErrorLine) -> Result<(), OutOfMemory>
 pub fn write_error(out: &mut Vec<u8>, error: &ErrorLine) -> Result<(), OutOfMemory>
     ensures { OnOk result (out.new.items ≡ out.old.items ++ error_text error.now) }
 {
-    words(out, error)?;
-    text(out, b"\n")
+    match fixed(error) {
+        Some(line) => text(out, line),
+        None => {
+            words(out, error)?;
+            text(out, b"\n")
+        }
+    }
 }

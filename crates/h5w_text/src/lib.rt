@@ -19,4 +19,4 @@ pub use reply::write_reply;
 pub use status::Status;
 pub use streams::{Sink, Source};
 pub use table::{write_numbers, write_rows, write_words};
-pub use telling::{say, tell};
+pub use telling::{say, say_line, tell};

@@ -24,7 +24,7 @@ pub enum Status {
     Input,
     /// A limit is passed.
     Limit,
-    /// The disk failed.
+    /// The disk failed, or the image that threads share.
     Disk,
     /// The source failed.
     Source,

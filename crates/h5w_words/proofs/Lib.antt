@@ -1,3 +1,3 @@
-pub mod WordLemmas
-pub mod FillLemmas
+mod WordLemmas
+mod FillLemmas
 pub mod NameLemmas
