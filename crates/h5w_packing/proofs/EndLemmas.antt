@@ -7,7 +7,7 @@ use Rattle.h5w_model.specs.Images.{Holds, first_pieces, pieces}
 use Rattle.h5w_model.specs.Findings.{Used}
 use Rattle.h5w_model.specs.declared.piece.Write.{Write}
 use Rattle.h5w_model.proofs.ImageLemmas.{At-fits}
-use Rattle.h5w_visit_laws.specs.Ranges.{AllEndBy, Among, block_at}
+use Rattle.h5w_step_laws.specs.Ranges.{AllEndBy, Among, block_at}
 use Rattle.h5w_flush_laws.specs.Parts.{block_ranges, block_writes}
 use Rattle.h5w_packing_laws.specs.Growing.{RangesFrom}
 

@@ -9,8 +9,8 @@ use Rattle.h5w_model.specs.declared.cell.Cell.{Cell}
 use Rattle.h5w_model.proofs.IntegerLemmas.{int_size_bounds}
 use Rattle.h5w_model.proofs.LayoutLemmas.{layout_length_bound, length-layout_bytes}
 use Rattle.h5w_model.proofs.MessageLemmas.{fill_none_bytes, fill_value_length, length-int_type_bytes, length-shape_bytes, shape_rank}
-use Rattle.h5w_header_laws.specs.Spelled.{IsSpellable, spelled_header}
-use Rattle.h5w_header_laws.proofs.SpelledLemmas.{spelled_read}
+use Rattle.h5w_step_laws.specs.Spelled.{IsSpellable, spelled_header}
+use Rattle.h5w_step_laws.proofs.SpelledLemmas.{spelled_read}
 use Rattle.h5w_packing.specs.Plans.{SameDataset, header_size}
 use Rattle.h5w_packing.proofs.CellLemmas.{same_is_moved}
 

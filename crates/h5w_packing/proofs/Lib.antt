@@ -1,18 +1,19 @@
 pub mod TableLemmas
-pub mod JobLemmas
-pub mod LeftLemmas
-pub mod PutLemmas
-pub mod PlaceLemmas
-pub mod CellLemmas
-pub mod TileLemmas
-pub mod EndLemmas
-pub mod PlainLemmas
-pub mod BlockLemmas
+mod JobLemmas
+mod LeftLemmas
+mod PutLemmas
+mod PlaceLemmas
+mod CellLemmas
+mod TileLemmas
+mod EndLemmas
+mod PlainLemmas
+mod BlockLemmas
 pub mod WholeLemmas
-pub mod FrontLemmas
-pub mod FitLemmas
-pub mod SetLemmas
+mod FrontLemmas
+mod FitLemmas
+mod SetLemmas
 pub mod SoFarLemmas
-pub mod PreparedLemmas
-pub mod TiledLemmas
-pub mod ResultLemmas
+mod PreparedLemmas
+mod TiledLemmas
+mod ResultLemmas
+pub mod ShownLemmas

@@ -7,7 +7,7 @@ use Rattle.h5w_model.specs.Findings.{Used}
 use Rattle.h5w_model.specs.declared.cell.IndexKind.{IndexKind}
 use Rattle.h5w_model.specs.declared.cell.IndexKind.TheVariants.{Array, Tree}
 use Rattle.h5w_model.proofs.ImageLemmas.{length-range}
-use Rattle.h5w_visit_laws.specs.Ranges.{AllSome, block_at}
+use Rattle.h5w_step_laws.specs.Ranges.{AllSome, block_at}
 use Rattle.h5w_flush_laws.specs.Parts.{block_ranges}
 use Rattle.h5w_array_laws.specs.ArrayStores.{chunks_in}
 use Rattle.h5w_array_laws.proofs.AmongLemmas.{chunks_some, chunks_undefined}

@@ -9,8 +9,8 @@ use Rattle.h5w_model.specs.Superblock.{super_bytes}
 use Rattle.h5w_model.specs.Findings.{Used, chunk_bytes}
 use Rattle.h5w_model.specs.declared.piece.Write.{Write}
 use Rattle.h5w_model.proofs.SuperLemmas.{length-super_bytes}
-use Rattle.h5w_header_laws.specs.Spelled.{spelled_header}
-use Rattle.h5w_visit_laws.specs.Ranges.{Among, block_at}
+use Rattle.h5w_step_laws.specs.Spelled.{spelled_header}
+use Rattle.h5w_step_laws.specs.Ranges.{Among, block_at}
 use Rattle.h5w_flush_laws.specs.Parts.{block_ranges, block_writes}
 use Rattle.h5w_array_laws.specs.ArrayPlans.{fresh}
 use Rattle.h5w_several_creation_laws.specs.Links.{linking_header_len}

@@ -8,7 +8,7 @@ use Rattle.std.proofs.lemmas.List.Elements.{All-cons, All-nil}
 use Rattle.h5w_model.specs.Numbers.{range, undefined}
 use Rattle.h5w_model.specs.Images.{At, Holds}
 use Rattle.h5w_model.specs.Findings.{Used}
-use Rattle.h5w_visit_laws.specs.Ranges.{chunk_at}
+use Rattle.h5w_step_laws.specs.Ranges.{chunk_at}
 use Rattle.h5w_array_laws.specs.ArrayStores.{chunks_in}
 use Rattle.h5w_array_laws.proofs.AmongLemmas.{chunks_some, chunks_undefined}
 use Rattle.h5w_packing_laws.specs.Growing.{RangesFrom}

@@ -11,7 +11,7 @@ use Rattle.h5w_model.specs.Tiles.{TileFields, TiledFrom}
 use Rattle.h5w_model.specs.declared.cell.IndexKind.{IndexKind}
 use Rattle.h5w_model.specs.declared.cell.IndexKind.TheVariants.{Array, Tree}
 use Rattle.h5w_laws.specs.Tiles.{used_of}
-use Rattle.h5w_visit_laws.specs.Ranges.{block_at, chunk_at}
+use Rattle.h5w_step_laws.specs.Ranges.{block_at, chunk_at}
 use Rattle.h5w_cache.specs.declared.moves.Move.{Move}
 use Rattle.h5w_array_laws.specs.ArrayPlans.{fresh}
 use Rattle.h5w_array_laws.specs.ArrayStores.{chunks_in}

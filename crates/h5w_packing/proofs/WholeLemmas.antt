@@ -19,13 +19,13 @@ use Rattle.h5w_laws.specs.Several.{IsShare}
 use Rattle.h5w_laws.specs.Tiles.{used_of}
 use Rattle.h5w_laws.proofs.AnswerLemmas.{same_ok}
 use Rattle.h5w_laws.proofs.SeveralLemmas.{each_valid, finds_all}
-use Rattle.h5w_visit_laws.specs.Ranges.{AllEndBy, AllSome, Among, Disjoint, block_at}
-use Rattle.h5w_visit_laws.proofs.RangeLemmas.{among_left, among_right}
+use Rattle.h5w_step_laws.specs.Ranges.{AllEndBy, AllSome, Among, Disjoint, block_at}
+use Rattle.h5w_step_laws.proofs.RangeLemmas.{among_left, among_right}
 use Rattle.h5w_step_laws.specs.Moments.{Moment, Represents, reading_of}
 use Rattle.h5w_step_laws.proofs.FoundLemmas.{moment_shows}
 use Rattle.h5w_step_laws.proofs.PartLemmas.{disjoint_part}
 use Rattle.h5w_flush_laws.specs.Parts.{block_ranges, block_writes}
-use Rattle.h5w_header_laws.specs.Spelled.{spelled_header}
+use Rattle.h5w_step_laws.specs.Spelled.{spelled_header}
 use Rattle.h5w_array_laws.specs.Among.{AreAmong}
 use Rattle.h5w_array_laws.specs.ArrayPlans.{fresh}
 use Rattle.h5w_array_laws.specs.ArrayStores.{chunks_in}

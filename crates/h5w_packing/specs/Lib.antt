@@ -3,3 +3,4 @@ pub mod Jobs
 pub mod Plans
 pub mod SoFar
 pub mod Whole
+pub mod Shown

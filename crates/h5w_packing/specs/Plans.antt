@@ -17,7 +17,7 @@ use Rattle.h5w_space.specs.Space.{Space}
 use Rattle.h5w_space.specs.declared.Full.{Full}
 use Rattle.h5w_cache.specs.declared.moves.Move.{Move}
 use Rattle.h5w_model.specs.Findings.{chunk_bytes}
-use Rattle.h5w_header_laws.specs.Spelled.{spelled_header}
+use Rattle.h5w_step_laws.specs.Spelled.{spelled_header}
 use Rattle.h5w_flush_laws.specs.Parts.{block_writes}
 use Rattle.h5w_index.specs.Depths.{AreWithin}
 use Rattle.h5w_index.specs.Views.{IndexView, IsClean, IsSound, TakesKey, kind_of}

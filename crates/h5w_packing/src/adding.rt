@@ -1,7 +1,7 @@
 //! One dataset more of a packed file.
 ghost use Rattle.std.specs.Prelude.{◌≡◌, ◌+◌, ◌≤◌, ◌^◌, ◌++◌, ◌∷◌, [], length, if◌then◌else◌, Err, IfOk, IsOk, OnOk};
 ghost use Rattle.h5w_space.specs.declared.Full.{Full};
-ghost use Rattle.h5w_header_laws.specs.Spelled.{spelled_header};
+ghost use Rattle.h5w_step_laws.specs.Spelled.{spelled_header};
 ghost use Rattle.h5w_chunks.specs.Grids.{IsGrid, dataset_of};
 ghost use Rattle.h5w_several_creation_laws.specs.Links.{link_message};
 ghost use Rattle.h5w_packing.specs.Plans.{IsSetOut, chunk_tiles, front_size, front_tiles, move_tiles, wanted_of};

@@ -2,7 +2,7 @@
 ghost use Rattle.std.specs.Prelude.{◌≡◌, ◌+◌, ◌^◌, ◌<◌, ◌≤◌, length, IfOk};
 ghost use Rattle.h5w_model.specs.Tables.{format_limits, limit_of, needed};
 ghost use Rattle.h5w_chunks.specs.Grids.{IsGrid, dataset_of};
-ghost use Rattle.h5w_header_laws.specs.Spelled.{IsSpellable, spelled_header};
+ghost use Rattle.h5w_step_laws.specs.Spelled.{IsSpellable, spelled_header};
 ghost use Rattle.h5w_packing_laws.specs.Packing.{IsLaidOut};
 ghost use Rattle.h5w_packing.specs.Plans.{SameDataset, front_size};
 

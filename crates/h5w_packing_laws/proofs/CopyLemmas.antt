@@ -6,7 +6,7 @@ use Rattle.h5w_model.specs.Numbers.{undefined}
 use Rattle.h5w_model.specs.Trees.{node_size}
 use Rattle.h5w_model.specs.Findings.{Used}
 use Rattle.h5w_model.specs.declared.piece.Write.{Write}
-use Rattle.h5w_visit_laws.specs.Ranges.{AllSome, Among, block_at}
+use Rattle.h5w_step_laws.specs.Ranges.{AllSome, Among, block_at}
 use Rattle.h5w_space.specs.Space.{Space}
 use Rattle.h5w_cache.specs.Plans.{IsPlan, bytes_in, bytes_of}
 use Rattle.h5w_cache.specs.Stores.{Store, place_of}

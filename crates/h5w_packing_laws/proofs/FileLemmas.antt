@@ -18,13 +18,13 @@ use Rattle.h5w_laws.proofs.FitLemmas.{free_fit}
 use Rattle.h5w_laws.proofs.LinkLemmas.{IsLinked}
 use Rattle.h5w_laws.proofs.ResultLemmas.{and_then_from}
 use Rattle.h5w_laws.proofs.SeveralLemmas.{finds_all}
-use Rattle.h5w_visit_laws.specs.Ranges.{AllAmong, AllEndBy, AllSome, Disjoint, block_at}
-use Rattle.h5w_visit_laws.proofs.HeaderLaws.{root_from}
-use Rattle.h5w_visit_laws.proofs.HeaderVisits.{ranges_from}
-use Rattle.h5w_visit_laws.proofs.OverlapLemmas.{overlap_laws}
-use Rattle.h5w_visit_laws.proofs.RangeLemmas.{ends_cons, ends_nil, some_joined}
-use Rattle.h5w_header_laws.specs.Spelled.{spelled_header}
-use Rattle.h5w_header_laws.proofs.SpelledLemmas.{spelled_stands}
+use Rattle.h5w_step_laws.specs.Ranges.{AllAmong, AllEndBy, AllSome, Disjoint, block_at}
+use Rattle.h5w_step_laws.proofs.HeaderLaws.{root_from}
+use Rattle.h5w_step_laws.proofs.HeaderVisits.{ranges_from}
+use Rattle.h5w_step_laws.proofs.OverlapLemmas.{overlap_laws}
+use Rattle.h5w_step_laws.proofs.RangeLemmas.{ends_cons, ends_nil, some_joined}
+use Rattle.h5w_step_laws.specs.Spelled.{spelled_header}
+use Rattle.h5w_step_laws.proofs.SpelledLemmas.{spelled_stands}
 use Rattle.h5w_step_laws.specs.Moments.{all_used}
 use Rattle.h5w_step_laws.proofs.PartLemmas.{disjoint_part}
 use Rattle.h5w_array_laws.specs.Among.{AreAmong}

@@ -1,14 +1,14 @@
-pub mod GrownLemmas
-pub mod TightLemmas
-pub mod AgainLemmas
-pub mod SumLemmas
+mod GrownLemmas
+mod TightLemmas
+mod AgainLemmas
+mod SumLemmas
 pub mod RangeLemmas
 pub mod MapLemmas
-pub mod CopyLemmas
-pub mod StandLemmas
-pub mod TreePlanLemmas
-pub mod TopLemmas
-pub mod NewLemmas
-pub mod PackedLemmas
+mod CopyLemmas
+mod StandLemmas
+mod TreePlanLemmas
+mod TopLemmas
+mod NewLemmas
+mod PackedLemmas
 pub mod FileLemmas
 pub mod SourceLemmas

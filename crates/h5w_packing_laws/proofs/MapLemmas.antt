@@ -11,7 +11,7 @@ use Rattle.h5w_model.specs.Datasets.{Described}
 use Rattle.h5w_model.specs.Tables.{chunks_across, index_key}
 use Rattle.h5w_model.specs.Findings.{Used}
 use Rattle.h5w_model.specs.declared.cell.Key.{Key}
-use Rattle.h5w_visit_laws.specs.Ranges.{Among, chunk_at}
+use Rattle.h5w_step_laws.specs.Ranges.{Among, chunk_at}
 use Rattle.h5w_chunks.specs.Shares.{touched_key}
 use Rattle.h5w_array_laws.specs.ArrayStores.{chunks_in}
 use Rattle.h5w_array_laws.proofs.AmongLemmas.{chunks_some, chunks_undefined}

@@ -14,7 +14,7 @@ use Rattle.h5w_model.specs.declared.cell.Key.{Key}
 use Rattle.h5w_model.specs.declared.cell.IndexKind.TheVariants.{Array}
 use Rattle.h5w_model.specs.declared.piece.Write.{Write}
 use Rattle.h5w_model.proofs.ImageLemmas.{image-append}
-use Rattle.h5w_visit_laws.specs.Ranges.{AllSome, Disjoint}
+use Rattle.h5w_step_laws.specs.Ranges.{AllSome, Disjoint}
 use Rattle.h5w_space.specs.Space.{Space}
 use Rattle.h5w_cache.specs.Plans.{numbers}
 use Rattle.h5w_cache.specs.Stores.{Store, is_changed, times}

@@ -23,16 +23,16 @@ use Rattle.h5w_model.specs.declared.piece.Write.{Write}
 use Rattle.h5w_model.proofs.HeaderLemmas.{length-header_bytes}
 use Rattle.h5w_model.proofs.IntegerLemmas.{int_size_bounds}
 use Rattle.h5w_model.proofs.SuperLemmas.{length-super_bytes, super_at-super_bytes}
-use Rattle.h5w_visit_laws.specs.Ranges.{AllAmong, AllEndBy, AllSome, Among, Disjoint, block_at}
-use Rattle.h5w_visit_laws.specs.Needed.{AreFew}
-use Rattle.h5w_visit_laws.proofs.NeededLaws.{table_laws}
-use Rattle.h5w_visit_laws.proofs.RangeLemmas.{among_split, some_joined}
+use Rattle.h5w_step_laws.specs.Ranges.{AllAmong, AllEndBy, AllSome, Among, Disjoint, block_at}
+use Rattle.h5w_step_laws.specs.Needed.{AreFew}
+use Rattle.h5w_step_laws.proofs.NeededLaws.{table_laws}
+use Rattle.h5w_step_laws.proofs.RangeLemmas.{among_split, some_joined}
 use Rattle.h5w_space.specs.Space.{Apart, Space}
 use Rattle.h5w_space.specs.declared.Extent.{Extent}
 use Rattle.h5w_cache.specs.Stores.{Store}
 use Rattle.h5w_cache.specs.declared.moves.Move.{Move}
-use Rattle.h5w_header_laws.proofs.SpelledLemmas.{spelled_stands}
-use Rattle.h5w_header_laws.specs.Spelled.{spelled_header, spelled_messages}
+use Rattle.h5w_step_laws.proofs.SpelledLemmas.{spelled_stands}
+use Rattle.h5w_step_laws.specs.Spelled.{spelled_header, spelled_messages}
 use Rattle.h5w_step_laws.specs.Moments.{Moment, all_used}
 use Rattle.h5w_step_laws.proofs.PartLemmas.{disjoint_part}
 use Rattle.h5w_flush_laws.specs.Parts.{block_ranges, block_writes}

@@ -2,8 +2,8 @@
 use Rattle.std.proofs.Common.{◌≡◌, ◌⊎◌, ℕ, ◌+◌, ◌≤◌, List, [], ◌∷◌, ◌++◌, refl, sym, subst, inl, inr, arith, sum_by}
 use Rattle.std.proofs.lemmas.List.Sums.{sum_by-cons}
 use Rattle.h5w_model.specs.Findings.{Used}
-use Rattle.h5w_visit_laws.specs.Ranges.{AllEndBy, AllSome, Among, Disjoint}
-use Rattle.h5w_visit_laws.proofs.RangeLemmas.{among_left, among_right, among_split}
+use Rattle.h5w_step_laws.specs.Ranges.{AllEndBy, AllSome, Among, Disjoint}
+use Rattle.h5w_step_laws.proofs.RangeLemmas.{among_left, among_right, among_split}
 use Rattle.h5w_step_laws.proofs.PartLemmas.{count_joined}
 use Rattle.h5w_array_laws.specs.Among.{AreAmong}
 use Rattle.h5w_creation_laws.proofs.StackLemmas.{Stacked, stacked_apart}

@@ -6,10 +6,10 @@ use Rattle.h5w_model.specs.Numbers.{range, undefined}
 use Rattle.h5w_model.specs.Tables.{format_limits, index_key, limit_of, needed}
 use Rattle.h5w_model.specs.Findings.{chunk_bytes}
 use Rattle.h5w_laws.proofs.AnswerLemmas.{same_ok}
-use Rattle.h5w_visit_laws.specs.Ranges.{Among, chunk_at}
-use Rattle.h5w_visit_laws.proofs.HeaderLaws.{header_tells}
-use Rattle.h5w_visit_laws.proofs.NeededLaws.{table_any}
-use Rattle.h5w_visit_laws.proofs.RangeLemmas.{among_right}
+use Rattle.h5w_step_laws.specs.Ranges.{Among, chunk_at}
+use Rattle.h5w_step_laws.proofs.HeaderLaws.{header_tells}
+use Rattle.h5w_step_laws.proofs.NeededLaws.{table_any}
+use Rattle.h5w_step_laws.proofs.RangeLemmas.{among_right}
 use Rattle.h5w_step_laws.specs.Moments.{Moment, reading_of}
 use Rattle.h5w_step_laws.proofs.FoundLemmas.{Bare, bare_opened, bare_shows, valid_opened}
 use Rattle.h5w_step_laws.proofs.MomentLemmas.{super_parts}

@@ -3,9 +3,9 @@ use Rattle.std.proofs.Common.{◌≡◌, ℕ, true, List, [], ◌∷◌, sym, ap
 use Rattle.h5w_model.specs.Datasets.{Described}
 use Rattle.h5w_model.specs.Findings.{Used, chunk_bytes}
 use Rattle.h5w_model.specs.declared.cell.IndexKind.TheVariants as kinds
-use Rattle.h5w_visit_laws.specs.Ranges.{AllEndBy}
-use Rattle.h5w_visit_laws.specs.Indexes.{IsIndex}
-use Rattle.h5w_visit_laws.proofs.IndexLaws.{index_of_parts}
+use Rattle.h5w_step_laws.specs.Ranges.{AllEndBy}
+use Rattle.h5w_step_laws.specs.Indexes.{IsIndex}
+use Rattle.h5w_step_laws.proofs.IndexLaws.{index_of_parts}
 use Rattle.h5w_cache.specs.Stores.{Store, times}
 use Rattle.h5w_flush_laws.specs.Parts.{SaysInPlace}
 use Rattle.h5w_array_laws.specs.ArrayStores as arrays

@@ -2,7 +2,7 @@
 use Rattle.std.proofs.Common.{◌≡◌, ◌⊎◌, ℕ, ◌+◌, ◌<◌, List, [], ◌∷◌, refl, sym, ◌∙◌, ap, subst, inl, inr, arith, sum_by}
 use Rattle.std.proofs.lemmas.List.Sums.{sum_by-cons}
 use Rattle.h5w_model.specs.Findings.{Used}
-use Rattle.h5w_visit_laws.specs.Ranges.{AllAmong, Among, AreApart, Disjoint}
+use Rattle.h5w_step_laws.specs.Ranges.{AllAmong, Among, AreApart, Disjoint}
 use Rattle.h5w_step_laws.proofs.PartLemmas.{apart_sym, disjoint_some}
 use Rattle.h5w_tree_index_laws.specs.TreeImages.{AreSame}
 

@@ -8,8 +8,8 @@ use Rattle.h5w_model.specs.Datasets.{Described}
 use Rattle.h5w_model.specs.Tables.{cell, index_key, needed}
 use Rattle.h5w_model.specs.Findings.{AllSummary, AllValid, Used, chunk_bytes, the_superblock}
 use Rattle.h5w_model.specs.declared.piece.Write.{Write}
-use Rattle.h5w_visit_laws.specs.Ranges.{AllAmong, AllSome, block_at}
-use Rattle.h5w_header_laws.specs.Spelled.{spelled_header}
+use Rattle.h5w_step_laws.specs.Ranges.{AllAmong, AllSome, block_at}
+use Rattle.h5w_step_laws.specs.Spelled.{spelled_header}
 use Rattle.h5w_space.specs.Space.{Space}
 use Rattle.h5w_cache.specs.declared.moves.Move.{Move}
 use Rattle.h5w_step_laws.specs.Moments.{Moment, Represents, all_used}

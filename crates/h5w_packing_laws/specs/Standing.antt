@@ -2,8 +2,8 @@
 use Rattle.std.specs.Prelude.{◌≡◌, ℕ, List}
 use Rattle.h5w_model.specs.Datasets.{Described}
 use Rattle.h5w_model.specs.Findings.{chunk_bytes}
-use Rattle.h5w_visit_laws.specs.Ranges.{AllEndBy}
-use Rattle.h5w_visit_laws.specs.Indexes.{IsIndex}
+use Rattle.h5w_step_laws.specs.Ranges.{AllEndBy}
+use Rattle.h5w_step_laws.specs.Indexes.{IsIndex}
 use Rattle.h5w_flush_laws.specs.Knowledge.{IsMap}
 use Rattle.h5w_index.specs.Views.{IndexView, IsClean, IsSound, StandsOn, address_in, behind_of, fixed_of, header_place, kind_of}
 

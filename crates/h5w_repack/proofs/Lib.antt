@@ -1,4 +1,5 @@
-pub mod CarryLemmas
-pub mod CopyLemmas
+mod CarryLemmas
+mod CopyLemmas
 pub mod InsideLemmas
 pub mod RepackLemmas
+pub mod CopiesLemmas

@@ -8,6 +8,7 @@ use Rattle.h5w_space.specs.declared.Full.{Full}
 use Rattle.h5w_packing.specs.Plans.{IsOut, IsPlanned, Wanted}
 use Rattle.h5w_packing.specs.Jobs.{PackingView}
 use Rattle.h5w_packing.specs.Whole.{AllWanted, IsPackedBy}
+use Rattle.h5w_packing.specs.Shown.{EndsPast, ShowsCopies}
 use Rattle.h5w_survey.specs.Surveys.{IsClosedFile, IsRefusedFor}
 use Rattle.h5w_survey.specs.declared.error.SurveyError.TheVariants as surveys
 use Rattle.h5w_repack.specs.declared.error.RepackError.{RepackError}
@@ -46,6 +47,21 @@ IsNotPacked img names limit (Space full) = IsOutOf img names limit full
 IsNotPacked img names limit From = Unit {0}
 IsNotPacked img names limit To = Unit {0}
 IsNotPacked img names limit OutOfMemory = Unit {0}
+
+-- ---- The same in words of the bytes of both files
+
+-- The source is valid and nobody writes it. The new file ends by the limit, and has copies of all that the source shows.
+pub record HasCopies (img : List ℕ) (names : List (List ℕ)) (limit : ℕ) (ranges : List TileFields) (to : List ℕ) : Type 0 where
+  pub source : List Reading
+  pub file : IsClosedFile img names source
+  pub copies : ShowsCopies img names source ranges to
+  pub within : length to ≤ limit
+
+-- the source is valid and nobody writes it, and a range of the new file would end past the limit
+pub record PassesLimit (img : List ℕ) (names : List (List ℕ)) (limit : ℕ) (full : Full) : Type 0 where
+  pub source : List Reading
+  pub file : IsClosedFile img names source
+  pub past : EndsPast limit full
 
 -- ---- Names
 

@@ -47,6 +47,7 @@ memory_leaves file_name names limit to (errors.Line n) h = absurd h
 memory_leaves file_name names limit to (errors.Range n i x) h = absurd h
 memory_leaves file_name names limit to (errors.Input most) h = absurd h
 memory_leaves file_name names limit to errors.Disk h = h
+memory_leaves file_name names limit to errors.Image h = absurd h
 memory_leaves file_name names limit to errors.Source h = absurd h
 memory_leaves file_name names limit to errors.Memory h = h
 
@@ -129,6 +130,7 @@ by_answer names limit source target img r (Err (errors.Line n)) there closed mis
 by_answer names limit source target img r (Err (errors.Range n i x)) there closed missing calm h = absurd h
 by_answer names limit source target img r (Err (errors.Input most)) there closed missing calm h = absurd h
 by_answer names limit source target img r (Err errors.Disk) there closed missing calm h = absurd (calm refl)
+by_answer names limit source target img r (Err errors.Image) there closed missing calm h = absurd h
 by_answer names limit source target img r (Err errors.Source) there closed missing calm h = absurd h
 by_answer names limit source target img r (Err errors.Memory) there closed missing calm h = inr (inl refl)
 

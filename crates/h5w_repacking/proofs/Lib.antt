@@ -1,5 +1,6 @@
 pub mod EndLemmas
-pub mod NewLemmas
-pub mod PackLemmas
-pub mod PairLemmas
-pub mod TextLemmas
+mod NewLemmas
+mod PackLemmas
+mod PairLemmas
+mod TextLemmas
+pub mod TellLemmas

@@ -49,6 +49,7 @@ module _ (file_name to : List ℕ) (limit : ℕ) (ranges : Bool) (s : List Sourc
   writes_unplanned v (errors.Range n i x) h = absurd h
   writes_unplanned v (errors.Input most) h = absurd h
   writes_unplanned v errors.Disk h = absurd h
+  writes_unplanned v errors.Image h = absurd h
   writes_unplanned v errors.Source h = absurd h
   writes_unplanned v errors.Memory h = leaves_itself v
 
@@ -75,6 +76,7 @@ module _ (file_name to : List ℕ) (limit : ℕ) (ranges : Bool) (s : List Sourc
   writes_planned v w p (Err (errors.Range n i x)) planned h so = absurd h
   writes_planned v w p (Err (errors.Input most)) planned h so = absurd h
   writes_planned v w p (Err errors.Disk) planned h so = h
+  writes_planned v w p (Err errors.Image) planned h so = absurd h
   writes_planned v w p (Err errors.Source) planned h so = absurd h
   writes_planned v w p (Err errors.Memory) planned h so = h
 
@@ -101,6 +103,7 @@ module _ (file_name to : List ℕ) (limit : ℕ) (ranges : Bool) (s : List Sourc
   packs_unmade v w (errors.Range n i x) h = absurd h
   packs_unmade v w (errors.Input most) h = absurd h
   packs_unmade v w errors.Disk h = (inl h.0, h.1)
+  packs_unmade v w errors.Image h = absurd h
   packs_unmade v w errors.Source h = absurd h
   packs_unmade v w errors.Memory h = inl h
 
@@ -129,6 +132,7 @@ module _ (file_name to : List ℕ) (limit : ℕ) (ranges : Bool) (s : List Sourc
     inr (record { bytes = image [] h.0.writes; new = new_put {u = u} {v = v} {w = w} to [] h.0.writes new h.0.put; unborn = unborn h.0.writes h.0.behind }),
     rose_from u.faults v.faults w.faults new.disk.faults h.1,
   )
+  packs_made u v w (Err errors.Image) new h = absurd h
   packs_made u v w (Err errors.Source) new h = absurd h
   packs_made u v w (Err errors.Memory) new h = inr (record { bytes = []; new = new_left {u = u} {v = v} {w = w} to [] new h; unborn = empty_unborn })
 
@@ -154,6 +158,7 @@ of_survey file_name names limit to (errors.Line n) k h = absurd k
 of_survey file_name names limit to (errors.Range n i x) k h = absurd k
 of_survey file_name names limit to (errors.Input most) k h = absurd k
 of_survey file_name names limit to errors.Disk k h = inl h
+of_survey file_name names limit to errors.Image k h = absurd k
 of_survey file_name names limit to errors.Source k h = absurd k
 of_survey file_name names limit to errors.Memory k h = inl h
 
@@ -188,6 +193,7 @@ refused_for names limit source target (errors.Line n) h = absurd h
 refused_for names limit source target (errors.Range n i x) h = absurd h
 refused_for names limit source target (errors.Input most) h = absurd h
 refused_for names limit source target errors.Disk h = tt
+refused_for names limit source target errors.Image h = absurd h
 refused_for names limit source target errors.Source h = absurd h
 refused_for names limit source target errors.Memory h = tt
 
@@ -306,5 +312,6 @@ module _ (u v w : DiskView) (file_name to : List ℕ) (names : List (List ℕ)) 
   repacks_found (Err (errors.Range n i x)) h = absurd h
   repacks_found (Err (errors.Input most)) h = absurd h
   repacks_found (Err errors.Disk) h = record { leaves = amid h.0; exact = any_told u.told (λ d. tt); cause = λ e. rose_from u.faults v.faults w.faults surveyed.disk.faults h.1 }
+  repacks_found (Err errors.Image) h = absurd h
   repacks_found (Err errors.Source) h = absurd h
   repacks_found (Err errors.Memory) h = record { leaves = amid h; exact = any_told u.told (λ d. tt); cause = λ e. cc }

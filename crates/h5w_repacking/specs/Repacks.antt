@@ -9,6 +9,7 @@ use Rattle.h5w_model.specs.Tiles.{TileFields}
 use Rattle.h5w_model.specs.declared.piece.Write.{Write}
 use Rattle.h5w_model.specs.declared.refusal.ReadError.TheVariants.{NotSwmr}
 use Rattle.h5w_image.specs.View.{DiskState, DiskView, IsThere, file}
+use Rattle.h5w_space.specs.declared.Full.{Full}
 use Rattle.h5w_cache.specs.declared.plan.PlanError.{PlanError}
 use Rattle.h5w_cache.specs.declared.plan.PlanError.TheVariants as plans
 use Rattle.h5w_text.specs.Errors.{error_text}
@@ -110,34 +111,41 @@ pub record HasPacked (file_name : List ℕ) (names : List (List ℕ)) (limit : �
   pub new : HasNew to bytes v w
   pub packed : IfSome v.told (λ d. OfBytes (file d file_name) (λ img. IsPacked img names limit p.ranges bytes × (p.end ≡ length bytes)))
 
--- By the answer: the new file; nothing changed where the source is refused or the new file's name is taken; an empty new file where there
--- is no space; where the disk failed, or memory is wanting, nothing changed, or the new file is no file yet.
--- There is no other answer.
+-- With an error: nothing changed where the source is refused or the new file's name is taken; an empty new file where there is no space; where
+-- the disk failed, or memory is wanting, nothing changed, or the new file is no file yet. There is no other error.
+abbrev pub ErrorLeaves : (to : List ℕ) → DiskView → DiskView → ErrorLine → Type 0
+ErrorLeaves to v w errors.Missing = LeavesFiles v.told v w
+ErrorLeaves to v w (errors.Finding kind at) = LeavesFiles v.told v w
+ErrorLeaves to v w (errors.Overlap at len other other_len) = LeavesFiles v.told v w
+ErrorLeaves to v w (errors.Read e) = LeavesFiles v.told v w
+ErrorLeaves to v w errors.Exists = LeavesFiles v.told v w
+ErrorLeaves to v w (errors.FullSpace at size most) = HasNew to [] v w
+ErrorLeaves to v w errors.Disk = LeavesFiles v.told v w ⊎ HasUnborn to v w
+ErrorLeaves to v w errors.Memory = LeavesFiles v.told v w ⊎ HasUnborn to v w
+ErrorLeaves to v w e = ⊥
+
+-- by the answer: the new file, or what its error leaves
 abbrev pub RepackLeaves : List ℕ → List (List ℕ) → ℕ → List ℕ → DiskView → DiskView → Result PackedFile ErrorLine → Type 0
 RepackLeaves file_name names limit to v w (Ok p) = HasPacked file_name names limit to p v w
-RepackLeaves file_name names limit to v w (Err errors.Missing) = LeavesFiles v.told v w
-RepackLeaves file_name names limit to v w (Err (errors.Finding kind at)) = LeavesFiles v.told v w
-RepackLeaves file_name names limit to v w (Err (errors.Overlap at len other other_len)) = LeavesFiles v.told v w
-RepackLeaves file_name names limit to v w (Err (errors.Read e)) = LeavesFiles v.told v w
-RepackLeaves file_name names limit to v w (Err errors.Exists) = LeavesFiles v.told v w
-RepackLeaves file_name names limit to v w (Err (errors.FullSpace at size most)) = HasNew to [] v w
-RepackLeaves file_name names limit to v w (Err errors.Disk) = LeavesFiles v.told v w ⊎ HasUnborn to v w
-RepackLeaves file_name names limit to v w (Err errors.Memory) = LeavesFiles v.told v w ⊎ HasUnborn to v w
-RepackLeaves file_name names limit to v w (Err e) = ⊥
+RepackLeaves file_name names limit to v w (Err e) = ErrorLeaves to v w e
 
 -- ---- Its answer
 
--- Why, by the bytes of the source and those of what has the new file's name: the first reason in the order tried.
+-- Why, by the bytes of the source and those of what has the new file's name: the first reason in the order tried. `Closed` says of the source
+-- that nothing is wrong with it, and `Out` that a range of the new file would end past the limit.
+abbrev pub RefusedFor : List (List ℕ) → (Closed : List ℕ → Type 0) → (Out : Full → List ℕ → Type 0) → (source target : Option (List ℕ)) → ErrorLine → Type 0
+RefusedFor names Closed Out source target errors.Missing = source ≡ None
+RefusedFor names Closed Out source target (errors.Finding kind at) = OfBytes source (λ img. AllFinds img names (found kind at))
+RefusedFor names Closed Out source target (errors.Overlap at len other other_len) = OfBytes source (λ img. AllFinds img names (overlap at len other other_len))
+RefusedFor names Closed Out source target (errors.Read (NotSwmr flags)) = OfBytes source (λ img. IsOpenFile img names flags)
+RefusedFor names Closed Out source target errors.Exists = OfBytes target (λ b. OfBytes source Closed)
+RefusedFor names Closed Out source target (errors.FullSpace at size most) = (target ≡ None) × OfBytes source (Out (record { at = at; size = size; limit = most }))
+RefusedFor names Closed Out source target errors.Disk = Unit {0}
+RefusedFor names Closed Out source target errors.Memory = Unit {0}
+RefusedFor names Closed Out source target e = ⊥
+
 abbrev pub RefusedBy : List (List ℕ) → ℕ → Option (List ℕ) → Option (List ℕ) → ErrorLine → Type 0
-RefusedBy names limit source target errors.Missing = source ≡ None
-RefusedBy names limit source target (errors.Finding kind at) = OfBytes source (λ img. AllFinds img names (found kind at))
-RefusedBy names limit source target (errors.Overlap at len other other_len) = OfBytes source (λ img. AllFinds img names (overlap at len other other_len))
-RefusedBy names limit source target (errors.Read (NotSwmr flags)) = OfBytes source (λ img. IsOpenFile img names flags)
-RefusedBy names limit source target errors.Exists = OfBytes target (λ b. OfBytes source (λ img. (s : List Source) × IsSurveyOf img names s))
-RefusedBy names limit source target (errors.FullSpace at size most) = (target ≡ None) × OfBytes source (λ img. IsOutOf img names limit (record { at = at; size = size; limit = most }))
-RefusedBy names limit source target errors.Disk = Unit {0}
-RefusedBy names limit source target errors.Memory = Unit {0}
-RefusedBy names limit source target e = ⊥
+RefusedBy names limit source target e = RefusedFor names (λ img. (s : List Source) × IsSurveyOf img names s) (λ full img. IsOutOf img names limit full) source target e
 
 abbrev pub AnsweredBy : List (List ℕ) → ℕ → Option (List ℕ) → Option (List ℕ) → Result PackedFile ErrorLine → Type 0
 AnsweredBy names limit source target (Ok p) = target ≡ None

@@ -6,6 +6,7 @@ ghost use Rattle.h5w_packing.specs.Tiles.{tile_of};
 ghost use Rattle.h5w_packing.specs.SoFar.{AreSources};
 ghost use Rattle.h5w_repack.specs.Packed.{ArePacks};
 ghost use Rattle.h5w_repacking.specs.Repacks.{CopiesTo, MakesNew, PacksTo, PlansTo, RepackEnds, RepackEndsWell, RepackedTo, SurveysTo, WritesTo, end_text, is_chunk, line_of_copy, line_of_plan, line_of_survey, packed_text, ranges_text};
+ghost use Rattle.h5w_repacking.specs.Tells.{RepackTells};
 
 use crate::two_files::TwoFiles;
 use h5w_files::DiskImage;
@@ -295,6 +296,7 @@ pub fn repack<K: Sink, D: Disk>(
     requires names { ArePacks names.now }
     requires low { 1024 * length names.now ≤ limit }
     requires high { limit ≤ 2 ^ 40 }
+    ensures tells { RepackTells file.now to.now names.now limit ranges (D.view disk.old) (D.view disk.new) result (K.view sink.old) (K.view sink.new) }
     ensures repacks { RepackEnds file.now to.now names.now limit ranges (D.view disk.old) (D.view disk.new) result (K.view sink.old) (K.view sink.new) }
     ensures completes { RepackEndsWell file.now to.now names.now (D.view disk.old) (D.view disk.new) result (K.view sink.old) (K.view sink.new) }
 {

@@ -1,3 +1,3 @@
-pub mod StepLemmas
-pub mod ReadingLemmas
-pub mod WholeLemmas
+mod StepLemmas
+mod ReadingLemmas
+mod WholeLemmas

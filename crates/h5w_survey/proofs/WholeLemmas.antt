@@ -17,13 +17,13 @@ use Rattle.h5w_model.specs.declared.refusal.ReadError.TheVariants.{NotSwmr, TooM
 use Rattle.h5w_model.proofs.CheckedLemmas.{checked-passed}
 use Rattle.h5w_laws.proofs.ResultLemmas.{and_then_ok, refused_ok, then_ok}
 use Rattle.h5w_laws.proofs.ValidLemmas.{valid_shows}
-use Rattle.h5w_header_laws.proofs.DescribedLemmas.{parts_of}
+use Rattle.h5w_step_laws.proofs.HeaderDescribedLemmas.{parts_of}
 use Rattle.h5w_laws.proofs.SeveralLemmas.{each_valid, finds_all}
 use Rattle.h5w_laws.specs.Several.{IsShare}
 use Rattle.h5w_step_laws.proofs.MomentLemmas.{super_parts}
 use Rattle.h5w_model.specs.Findings.{AllSummary, Summary, Valid}
 use Rattle.h5w_model.specs.Relations.{AllPaired}
-use Rattle.h5w_header_laws.proofs.ShapeLemmas.{by_rank}
+use Rattle.h5w_step_laws.proofs.ShapeLemmas.{by_rank}
 use Rattle.h5w_several_laws.specs.Together.{IsAllValid}
 use Rattle.h5w_survey.specs.Surveys.{IsWhole, is_written}
 

@@ -1,5 +1,5 @@
 use Rattle.std.proofs.Common.{◌≤◌, List, length, ℕ, sym, subst}
-use Rattle.h5w_header_laws.proofs.SpelledLemmas.{spelled_read}
+use Rattle.h5w_step_laws.proofs.SpelledLemmas.{spelled_read}
 use Rattle.h5w_chunks.specs.Grids.{dataset_of}
 use Rattle.h5w_packing.proofs.FrontLemmas.{spelled_short}
 use Rattle.h5w_packing.proofs.ResultLemmas.{ok_by}
