@@ -9,7 +9,7 @@ use Rattle.h5w_model.specs.declared.root.Super.{Super}
 use Rattle.h5w_model.proofs.ImageLemmas.{At-apply, image-push}
 use Rattle.h5w_model.proofs.SuperLemmas.{length-super_bytes}
 use Rattle.h5w_opening.specs.declared.error.OpenError.TheVariants.{OutOfMemory}
-use Rattle.h5w_header_laws.specs.Files.{chunk_0}
+use Rattle.h5w_step_laws.specs.Files.{chunk_0}
 use Rattle.h5w_image.specs.View.{DiskView}
 use Rattle.h5w_several_open.specs.Beginnings.{HadFlags, root_by, shut_by}
 use Rattle.h5w_several_open.proofs.BeginningLemmas.{begun_root, shut_root}

@@ -131,6 +131,7 @@ close_cause name first t numbers u (errors.Line n) all stored c = absurd c
 close_cause name first t numbers u (errors.Range n i x) all stored c = absurd c
 close_cause name first t numbers u (errors.Input limit) all stored c = absurd c
 close_cause name first t numbers u errors.Disk all stored c = absurd c
+close_cause name first t numbers u errors.Image all stored c = absurd c
 close_cause name first t numbers u errors.Source all stored c = absurd c
 close_cause name first t numbers u errors.Memory all stored c = tt
 
@@ -175,6 +176,7 @@ line_cause y name first t numbers u line number (errors.Line n) reads count stor
 line_cause y name first t numbers u line number (errors.Range n i x) reads count stored c = (c.0, record { line = line; at = record { numbers = numbers; reads = reads; number = c.2.0 ∙ count; batches = refl }; spelled = subst (λ k. number_line_of k line ≡ Some c.0) (same_columns first t (after_lines no_batches numbers) stored.taken) c.1 }, subst (λ (d : Described). first_outside d.int_type 0 c.0 ≡ Some (i, x)) stored.taken.dataset c.2.1)
 line_cause y name first t numbers u line number (errors.Input limit) reads count stored c = absurd c
 line_cause y name first t numbers u line number errors.Disk reads count stored c = absurd c
+line_cause y name first t numbers u line number errors.Image reads count stored c = absurd c
 line_cause y name first t numbers u line number errors.Source reads count stored c = absurd c
 line_cause y name first t numbers u line number errors.Memory reads count stored c = tt
 

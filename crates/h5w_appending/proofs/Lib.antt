@@ -3,7 +3,7 @@ pub mod CreateLemmas
 pub mod BatchLemmas
 pub mod StoreLemmas
 pub mod StepLemmas
-pub mod InputLemmas
+mod InputLemmas
 pub mod ShutLemmas
 pub mod AppendLemmas
 pub mod OpenLemmas

@@ -14,11 +14,12 @@ use Rattle.h5w_several_open.specs.Beginnings.{HasBegunBy, IsBeginAnswer, IsNotBe
 use Rattle.h5w_writer.specs.Openings.{opened_log}
 use Rattle.h5w_writer.specs.Sessions.{Session}
 use Rattle.h5w_writer.specs.Stands.{Stands}
+use Rattle.h5w_writer_lines.specs.Lines.{open_line}
 use Rattle.h5w_text.specs.declared.error.ErrorLine.{ErrorLine}
 use Rattle.h5w_text.specs.declared.error.ErrorLine.TheVariants as errors
 use Rattle.h5w_files.specs.Images.{LeavesFiles, file_image, told_bytes}
 use Rattle.h5w_several_open.specs.declared.beginning.Beginning.{Beginning}
-use Rattle.h5w_appending.specs.Appends.{IsFree, IsOpenOver, NotOpened, Unopened, open_line}
+use Rattle.h5w_appending.specs.Appends.{IsFree, IsOpenOver, NotOpened, Unopened}
 use Rattle.h5w_appending.specs.Appending.{HasSize, IsBegun}
 use Rattle.h5w_files.proofs.ClearLemmas.{any_told, leaves_files}
 use Rattle.h5w_files.proofs.ImageLemmas.{leaves_on, looked_files}

@@ -1,5 +1,5 @@
 -- The pieces of a session in a file of a disk.
-use Rattle.std.proofs.Common.{◌≡◌, ℕ, ◌+◌, ◌≤◌, true, false, Bool, List, [], ◌∷◌, ◌++◌, length, Option, Some, None, refl, sym, ap, ◌∙◌, subst, arith, append_assoc, length-append}
+use Rattle.std.proofs.Common.{◌≡◌, ℕ, ◌+◌, ◌≤◌, List, [], ◌∷◌, ◌++◌, length, Option, Some, None, refl, sym, ap, ◌∙◌, subst, arith, append_assoc, length-append}
 use Rattle.std.specs.Prelude.{IfSome, IsSome, option_map}
 use Rattle.std.proofs.lemmas.List.{nil_from_length}
 use Rattle.h5w_model.specs.Causes.{Rose}
@@ -7,9 +7,9 @@ use Rattle.h5w_model.specs.Logs.{Log, and_now, shows}
 use Rattle.h5w_model.specs.declared.piece.Write.{Write}
 use Rattle.h5w_image.specs.View.{DiskState, DiskView, IsThere, Leaves, file, put}
 use Rattle.h5w_image.proofs.DiskLemmas.{there_after_put, rose_from}
-use Rattle.h5w_space.specs.Space.{Space}
-use Rattle.h5w_writer.specs.Sessions.{AfterPiece, Freed, Session, Settles}
+use Rattle.h5w_writer.specs.Sessions.{AfterPiece, Session}
 use Rattle.h5w_writer.specs.Stands.{Stands}
+use Rattle.h5w_writer_laws.proofs.LeavingLemmas.{piece_leaves}
 use Rattle.h5w_files.specs.Images.{LeavesFiles}
 use Rattle.h5w_appending.specs.Puts.{AllAre, PutsPieces, PutsSome, after_puts, counts_of, showing, writes_of}
 
@@ -82,61 +82,11 @@ puts_there {v} {w} name ps p there = subst (λ t. IfSome t (λ d. IsSome (file d
 
 -- ---- One piece
 
-freed_end : (b : Bool) (s t : Space) → Freed b s t → t.end ≡ s.end
-freed_end true s t is = ap (λ (x : Space). x.end) is
-freed_end false s t is = is.end
-
-freed_limit : (b : Bool) (s t : Space) → Freed b s t → t.limit ≡ s.limit
-freed_limit true s t is = ap (λ (x : Space). x.limit) is
-freed_limit false s t is = is.limit
-
--- what a piece leaves of its session
-record Leaving (s t : Session) (ws : List Write) : Type 0 where
-  session : t ≡ record s { places = t.places; committed = t.committed; pending = t.pending; flushing = t.flushing }
-  end : t.places.end ≡ s.places.end
-  limit : t.places.limit ≡ s.places.limit
-  pending : t.pending ≡ ws
-
--- the last one of a flush
-flush_leaving : (s t : Session) → Settles true s t → Leaving s t []
-flush_leaving s t after =
-    let pending : t.pending ≡ [] = ap (λ (x : Session). x.pending) after.1 in
-    let committed : t.committed ≡ s.dataset.shape.rows = ap (λ (x : Session). x.committed) after.1 in
-    let flushing : t.flushing ≡ false = ap (λ (x : Session). x.flushing) after.1 in
-    record {
-      session = after.1 ∙ (λ i. record s { places = t.places; committed = sym committed i; pending = sym pending i; flushing = sym flushing i });
-      end = freed_end s.keeps s.places t.places after.0;
-      limit = freed_limit s.keeps s.places t.places after.0;
-      pending = pending;
-    }
-
--- any other
-plain_leaving : (s t : Session) (ws : List Write) → t ≡ record s { pending = ws } → Leaving s t ws
-plain_leaving s t ws after =
-    let pending : t.pending ≡ ws = ap (λ (x : Session). x.pending) after in
-    let committed : t.committed ≡ s.committed = ap (λ (x : Session). x.committed) after in
-    let places : t.places ≡ s.places = ap (λ (x : Session). x.places) after in
-    let flushing : t.flushing ≡ s.flushing = ap (λ (x : Session). x.flushing) after in
-    record {
-      session = after ∙ (λ i. record s { places = sym places i; committed = sym committed i; pending = sym pending i; flushing = sym flushing i });
-      end = ap (λ (x : Space). x.end) places;
-      limit = ap (λ (x : Space). x.limit) places;
-      pending = pending;
-    }
-
-last_leaving : (b : Bool) (s t : Session) → Settles b s t → Leaving s t []
-last_leaving true s t after = flush_leaving s t after
-last_leaving false s t after = plain_leaving s t [] after
-
-leaving : (s : Session) (ws : List Write) (t : Session) → AfterPiece s ws t → Leaving s t ws
-leaving s [] t after = last_leaving s.flushing s t after
-leaving s (w ∷ ws) t after = plain_leaving s t (w ∷ ws) after
-
 -- it was put
 pub puts_one : {v w : DiskView} (name : List ℕ) (s t : Session) (wr : Write) (ws : List Write) → s.pending ≡ wr ∷ ws → AfterPiece s ws t → ((log : Log) → Stands s log → Stands t (and_now (shows wr) log))
     → Leaves 1 (option_map (put name wr v.faults) v.told) v w → PutsPieces name s t v w
 puts_one {v} {w} name s t wr ws pending after stands p =
-    let l = leaving s ws t after in
+    let l = piece_leaves s t ws after in
     record {
       puts = (wr, v.faults) ∷ [];
       pieces = pending ∙ ap (λ (xs : List Write). wr ∷ xs) (sym l.pending);
@@ -155,7 +105,7 @@ puts_one {v} {w} name s t wr ws pending after stands p =
     one (Some d) = refl
 
 pub one_less : (s t : Session) (wr : Write) (ws : List Write) → s.pending ≡ wr ∷ ws → AfterPiece s ws t → length t.pending + 1 ≡ length s.pending
-one_less s t wr ws pending after = omega (arith, ap length (leaving s ws t after).pending, ap length pending)
+one_less s t wr ws pending after = omega (arith, ap length (piece_leaves s t ws after).pending, ap length pending)
 
 -- none was
 pub puts_none : {v w : DiskView} (name : List ℕ) (s : Session) → LeavesFiles v.told v w → v.pieces ≤ w.pieces → v.end name ≤ w.end name → PutsPieces name s s v w

@@ -175,6 +175,7 @@ line_closes {v} {k} w l n name s t line number r spelled steps = λ first b u m 
     refused (errors.Range n i x) c = absurd c
     refused (errors.Input limit) c = absurd c
     refused errors.Disk c = absurd c
+    refused errors.Image c = absurd c
     refused errors.Source c = absurd c
     refused errors.Memory c = tt
 
@@ -251,6 +252,7 @@ line_refused {v} {w} k faults name s t line number values (endings.Refused e) p 
     refused (errors.Range n i x) c = (values, spelled, c)
     refused (errors.Input limit) c = absurd c
     refused errors.Disk c = absurd c
+    refused errors.Image c = absurd c
     refused errors.Source c = absurd c
     refused errors.Memory c = tt
 line_refused k faults name s t line number values endings.Disk p spelled h = λ first b u m counted told. (b, inl refl, record { broke = broke_before name first s t b h.0 p h.1 told.stored; gave = told.gave })

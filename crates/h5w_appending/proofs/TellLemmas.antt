@@ -23,9 +23,10 @@ use Rattle.h5w_writer.specs.Sessions.{Session, chunk_limit, chunks_with, cutting
 use Rattle.h5w_writer.specs.declared.refusal.AppendError.{AppendError}
 use Rattle.h5w_writer.specs.declared.refusal.AppendError.TheVariants as appends
 use Rattle.h5w_writer.proofs.LawLemmas.{standing_laws}
-use Rattle.h5w_header_laws.specs.Files.{chunk_0}
+use Rattle.h5w_step_laws.specs.Files.{chunk_0}
 use Rattle.h5w_several_open.specs.Beginnings.{IsBegunOver, IsNotBegun, is_damaged, is_refused, not_found}
 use Rattle.h5w_several_open.proofs.BeginningLemmas.{begun_dataset}
+use Rattle.h5w_writer_open.specs.OpenParts.{refused_part}
 use Rattle.h5w_writer_open.specs.OpenRanges.{cut_at, ranges_refused, refused_index, refused_open}
 use Rattle.h5w_writer_open.specs.declared.index.NoIndex.{NoIndex}
 use Rattle.h5w_writer_open.specs.declared.index.NoIndex.TheVariants.{Unnamed, Empty, WrongTotals, Unordered}
@@ -76,16 +77,24 @@ index_behind o d (Err Empty) e h = absurd (cc)
 index_behind o d (Err WrongTotals) e h = let is : opens.Finding 15 d.layout.address ≡ e = cc in subst (λ (q : OpenError). IsBehind o q) is (of_tree 15 d.layout.address)
 index_behind o d (Err Unordered) e h = let is : opens.Finding 16 d.layout.address ≡ e = cc in subst (λ (q : OpenError). IsBehind o q) is (of_tree 16 d.layout.address)
 
-open_behind : (o : Opened) (a : Result IndexView NoIndex) (e : OpenError) → refused_open o a ≡ Some e → IsBehind o e
-open_behind o a e h = first (ranges_refused o a) refl h
+-- by a range of its header or of its index
+pub ranges_behind : (o : Opened) (a : Result IndexView NoIndex) (e : OpenError) → ranges_refused o a ≡ Some e → IsBehind o e
+ranges_behind o a e h = range_behind o _ _ _ e h
+
+-- by what is appended to
+pub part_behind : (o : Opened) (a : Result IndexView NoIndex) (e : OpenError) → refused_part o a ≡ Some e → IsBehind o e
+part_behind o a e h = second (refused_dataset o) refl h
   where
     second : (x : Option OpenError) → refused_dataset o ≡ x → option_or x (refused_index o.header.dataset a) ≡ Some e → IsBehind o e
     second (Some f) is h = of_dataset e (is ∙ h)
     second None is h = index_behind o o.header.dataset a e h
 
-    first : (x : Option OpenError) → ranges_refused o a ≡ x → option_or x (option_or (refused_dataset o) (refused_index o.header.dataset a)) ≡ Some e → IsBehind o e
-    first (Some f) is h = range_behind o _ _ _ e (is ∙ h)
-    first None is h = second (refused_dataset o) refl h
+open_behind : (o : Opened) (a : Result IndexView NoIndex) (e : OpenError) → refused_open o a ≡ Some e → IsBehind o e
+open_behind o a e h = first (ranges_refused o a) refl h
+  where
+    first : (x : Option OpenError) → ranges_refused o a ≡ x → option_or x (refused_part o a) ≡ Some e → IsBehind o e
+    first (Some f) is h = ranges_behind o a e (is ∙ h)
+    first None is h = part_behind o a e h
 
 unopened_in : {by : Beginning} (img at : List ℕ) (e : OpenError) → IsNotBegun by img (length img) at e → IsUnopened by img at e
 unopened_in img at e (not_found f is) = of_headers is
@@ -256,6 +265,7 @@ is_why name at limit budget keeps first s t b (errors.ChunkBytes bytes) opened h
 is_why name at limit budget keeps first s t b errors.NoColumns opened h = absurd h
 is_why name at limit budget keeps first s t b (errors.Same one other) opened h = absurd h
 is_why name at limit budget keeps first s t b errors.Disk opened h = absurd h
+is_why name at limit budget keeps first s t b errors.Image opened h = absurd h
 
 -- ---- The whole append
 

@@ -9,11 +9,9 @@ use Rattle.h5w_model.specs.Numbers.{range}
 use Rattle.h5w_model.specs.Superblock.{super_at, super_bytes}
 use Rattle.h5w_model.specs.Tables.{Reads}
 use Rattle.h5w_model.specs.declared.piece.Write.{Write}
-use Rattle.h5w_model.specs.declared.refusal.ReadError.TheVariants as reads
 use Rattle.h5w_model.specs.declared.root.Super.{Super}
 use Rattle.h5w_opening.specs.Errors.{IsOpenKind}
 use Rattle.h5w_opening.specs.declared.error.OpenError.{OpenError}
-use Rattle.h5w_opening.specs.declared.error.OpenError.TheVariants as opens
 use Rattle.h5w_image.specs.View.{DiskView, IsThere, file}
 use Rattle.h5w_space.specs.declared.Full.{Full}
 use Rattle.h5w_writer.specs.Loads.{NoPlace}
@@ -26,6 +24,7 @@ use Rattle.h5w_writer.specs.Stands.{Stands}
 use Rattle.h5w_writer.specs.declared.refusal.AppendError.TheVariants as appends
 use Rattle.h5w_text.specs.Errors.{error_text}
 use Rattle.h5w_input.specs.Scripts.{number_line_of}
+use Rattle.h5w_writer_lines.specs.Lines.{open_line}
 use Rattle.h5w_text.specs.Streams.{SourceView, SinkView, Gave, GaveSome}
 use Rattle.h5w_text.specs.declared.error.ErrorLine.{ErrorLine}
 use Rattle.h5w_text.specs.declared.error.ErrorLine.TheVariants as errors
@@ -194,20 +193,6 @@ InputRefuses name first s t b v errors.Memory = Unit {0}
 InputRefuses name first s t b v e = ⊥
 
 -- ---- The file
-
--- the line of a refusal to open a file, or to take it over
-abbrev pub open_line : OpenError → ErrorLine
-open_line (opens.Read e) = errors.Read e
-open_line (opens.Version version) = errors.WriterVersion version
-open_line (opens.Flags flags) = errors.Read (reads.NotSwmr flags)
-open_line (opens.Cut end size) = errors.Cut end size
-open_line opens.Layout = errors.Layout
-open_line (opens.ChunkBytes bytes limit) = errors.ChunkBytes bytes
-open_line opens.NoColumns = errors.NoColumns
-open_line (opens.Same one other) = errors.Same one other
-open_line (opens.Finding kind at) = errors.Finding kind at
-open_line opens.Failed = errors.Disk
-open_line opens.OutOfMemory = errors.Memory
 
 -- The session that begins over the file, which is there if the disk tells its files: an opened file has both flags of writers pending, one that is taken over has them.
 -- What is retired stays so where that is asked for. Over a valid file it is that of the log to which nothing happened yet.

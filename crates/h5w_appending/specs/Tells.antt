@@ -31,11 +31,12 @@ use Rattle.h5w_text.specs.declared.status.Status.{Status}
 use Rattle.h5w_text.specs.declared.status.Status.TheVariants as statuses
 use Rattle.h5w_files.specs.Images.{LeavesFiles, told_bytes}
 use Rattle.h5w_files.specs.Ends.{EndsBehind}
+use Rattle.h5w_writer_lines.specs.Lines.{open_line}
 use Rattle.h5w_batches.specs.Batches.{Batches, after_lines, close_batch, no_batches}
 use Rattle.h5w_batches.specs.Inputs.{ReadsAll, ReadsTooMuch, ReadsWhole, input_limit}
 use Rattle.h5w_appending.specs.Taken.{AreTaken, ReadsLine, closed_text, rows_after, rows_lines, values_of}
 use Rattle.h5w_appending.specs.Puts.{after_puts, writes_of}
-use Rattle.h5w_appending.specs.Appends.{AtLine, HasValues, Holds, IsFree, IsOfOpen, ShutAgain, StopsAtLine, open_line}
+use Rattle.h5w_appending.specs.Appends.{AtLine, HasValues, Holds, IsFree, IsOfOpen, ShutAgain, StopsAtLine}
 
 -- ---- The file
 

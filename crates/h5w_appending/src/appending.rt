@@ -8,7 +8,7 @@ ghost use Rattle.h5w_input.specs.LinesAhead.{lines_ahead};
 ghost use Rattle.h5w_files.specs.Images.{LeavesFiles};
 ghost use Rattle.h5w_batches.specs.Inputs.{SameSource, input_limit, outside};
 ghost use Rattle.h5w_appending.specs.Taken.{closed_text};
-ghost use Rattle.h5w_appending.specs.Appends.{AppendEnds, columns_of, open_line};
+ghost use Rattle.h5w_appending.specs.Appends.{AppendEnds, columns_of};
 ghost use Rattle.h5w_appending.specs.Tells.{TellsEnd};
 ghost use Rattle.h5w_appending.specs.Appending.{ClosesBy, FinishesBy, HasSize, IsBegun, IsReady, LooksOpen, OpensBy, ReadyUnlessDisk, SettlesOn, TakesAhead, TakesInputFrom, TakesInputOn};
 
@@ -20,11 +20,10 @@ use h5w_batches::INPUT_LIMIT;
 use h5w_files::DiskImage;
 use h5w_image::Disk;
 use h5w_input::{Intake, Lines, Next};
-use h5w_model::ReadError;
-use h5w_several_open::{Beginning, begin_one};
-use h5w_text::{ErrorLine, Sink, Source, Status, say, tell, write_numbers};
+use h5w_several_open::begin_one;
+use h5w_text::{ErrorLine, Sink, Source, Status, say, say_line, tell, write_numbers};
 use h5w_writer::WriterCore;
-use h5w_writer_open::OpenError;
+use h5w_writer_lines::open_line;
 use std::alloc::Global;
 
 /// How many values of lines that stand next are appended at once, at most.
@@ -183,25 +182,6 @@ fn settle<D: Disk>(
     }
 }
 
-/// The line of a refusal to open a file, or to take it over.
-fn open_line(error: OpenError) -> ErrorLine
-    ensures { result ≡ open_line error }
-{
-    match error {
-        OpenError::Read(refusal) => ErrorLine::Read(refusal),
-        OpenError::Version { version } => ErrorLine::WriterVersion(version),
-        OpenError::Flags { flags } => ErrorLine::Read(ReadError::NotSwmr { flags }),
-        OpenError::Cut { end, size } => ErrorLine::Cut { end, size },
-        OpenError::Layout => ErrorLine::Layout,
-        OpenError::ChunkBytes { bytes, limit: _ } => ErrorLine::ChunkBytes(bytes),
-        OpenError::NoColumns => ErrorLine::NoColumns,
-        OpenError::Same { first, second } => ErrorLine::Same { first, second },
-        OpenError::Finding { kind, at } => ErrorLine::Finding { kind, at },
-        OpenError::Failed => ErrorLine::Disk,
-        OpenError::OutOfMemory => ErrorLine::Memory,
-    }
-}
-
 /// Looks at a file of this size, and begins a session over it.
 fn look_open<D: Disk>(
     alloc: Global,
@@ -316,46 +296,35 @@ fn append_all<S: Source, K: Sink, D: Disk>(
     settled
 }
 
-/// Appends the numbers of the source to the dataset that the root group's link of `name` leads to in the file of the name `file`, which
-/// grows to `limit` bytes at most: each line has the values of rows, and an empty line and the end of the input close a batch. A batch
-/// becomes visible at once, and how many rows the file has then is written. Of a batch that leaves more than `budget` bytes unwritten some rows
-/// are written before its end, and no reader reaches them. Where `keeps` is set no place that is let go is used again.
+/// Appends the numbers of the source to the dataset that the root group's link of `name` leads to in the file of these terms, which grows to
+/// their `limit` of bytes at most: each line has the values of rows, and an empty line and the end of the input close a batch. A batch
+/// becomes visible at once, and how many rows the file has then is written. Of a batch that leaves more than the `budget` of bytes unwritten
+/// some rows are written before its end, and no reader reaches them. If `keeps` is set no place that is let go is used again.
 /// After a refusal what was not closed is dropped, and nobody writes the file.
 ///
-/// The file is opened, or taken over where another session left it: that begins with the rows that were flushed, and nobody else may write the
-/// file from then on.
+/// The file is opened, or taken over from another session that left it: that begins with the rows that were flushed, and nobody else may
+/// write the file from then on.
 pub fn append<S: Source, K: Sink, D: Disk>(
     alloc: Global,
-    by: Beginning,
-    file: &str,
+    terms: Terms<'_>,
     name: &[u8],
-    limit: u64,
-    budget: u64,
-    keeps: bool,
     source: &mut S,
     sink: &mut K,
     disk: &mut D,
 ) -> Status
     requires name { length name.now ≤ 512 }
-    requires low { 1024 ≤ limit }
-    requires high { limit ≤ 2 ^ 40 }
-    requires budget { (1024 ≤ budget) × (budget ≤ 2 ^ 30) }
-    ensures tells { TellsEnd by file.now name.now limit (S.view source.old) (S.view source.new) (D.view disk.old) (D.view disk.new) result (K.view sink.old) (K.view sink.new) }
-    ensures appends { AppendEnds by file.now name.now limit budget keeps (S.view source.old) (S.view source.new) (D.view disk.old) (D.view disk.new) result (K.view sink.old) (K.view sink.new) }
+    requires low { 1024 ≤ terms.limit }
+    requires high { terms.limit ≤ 2 ^ 40 }
+    requires budget { (1024 ≤ terms.budget) × (terms.budget ≤ 2 ^ 30) }
+    ensures tells { TellsEnd terms.entry.by terms.entry.file.now name.now terms.entry.limit (S.view source.old) (S.view source.new) (D.view disk.old) (D.view disk.new) result (K.view sink.old) (K.view sink.new) }
+    ensures appends { AppendEnds terms.entry.by terms.entry.file.now name.now terms.entry.limit terms.entry.budget terms.entry.keeps (S.view source.old) (S.view source.new) (D.view disk.old) (D.view disk.new) result (K.view sink.old) (K.view sink.new) }
     ensures source { SameSource (S.view source.old) (S.view source.new) }
 {
-    let terms = Terms {
-        by,
-        file,
-        limit,
-        budget,
-        keeps,
-    };
     let mut text = Vec::new(alloc);
     match append_all(alloc, terms, name, &mut text, source, sink, disk) {
         Ok(()) => say(&text, Status::Done, sink),
         Err(Ending::Refused(error)) => tell(alloc, &error, sink),
-        Err(Ending::Disk) => say(b"error disk\n", Status::Disk, sink),
+        Err(Ending::Disk) => say_line(&ErrorLine::Disk, sink),
         Err(Ending::Sink) => Status::Sink,
     }
 }

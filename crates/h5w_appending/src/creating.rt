@@ -14,7 +14,7 @@ use h5w_image::{Disk, Failed, MakeError};
 use h5w_model::{OutOfMemory, Write};
 use h5w_names::Names;
 use h5w_several_creation::{Creations, Form, closing, create_files};
-use h5w_text::{Sink, Status, say, write_numbers};
+use h5w_text::{ErrorLine, Sink, Status, say, say_line, write_numbers};
 use std::alloc::Global;
 
 /// Why a file was not made.
@@ -169,8 +169,8 @@ pub fn create<K: Sink, D: Disk>(
     let mut text = Vec::new(alloc);
     match make_file(alloc, file, names, form, &mut text, disk) {
         Ok(()) => say(&text, Status::Done, sink),
-        Err(CreateError::Exists) => say(b"error exists\n", Status::Exists, sink),
-        Err(CreateError::Failed) => say(b"error disk\n", Status::Disk, sink),
-        Err(CreateError::OutOfMemory) => say(b"error memory\n", Status::Memory, sink),
+        Err(CreateError::Exists) => say_line(&ErrorLine::Exists, sink),
+        Err(CreateError::Failed) => say_line(&ErrorLine::Disk, sink),
+        Err(CreateError::OutOfMemory) => say_line(&ErrorLine::Memory, sink),
     }
 }

@@ -1,2 +1,2 @@
-pub mod ClearedLemmas
-pub mod ContinueLemmas
+mod ClearedLemmas
+mod ContinueLemmas

@@ -1,12 +1,13 @@
-pub mod CountLemmas
-pub mod SetLemmas
-pub mod PutLemmas
-pub mod PartLemmas
-pub mod LogLemmas
-pub mod StoreLemmas
-pub mod StepLemmas
-pub mod InputLemmas
-pub mod ShutLemmas
-pub mod OpenLemmas
-pub mod TellLemmas
-pub mod EndLemmas
+mod CountLemmas
+mod SetLemmas
+mod PutLemmas
+mod PartLemmas
+mod LogLemmas
+mod StoreLemmas
+mod StepLemmas
+mod InputLemmas
+mod ShutLemmas
+mod OpenLemmas
+mod TellLemmas
+mod EndLemmas
+pub mod OuterLemmas

@@ -14,3 +14,4 @@ pub mod Puts
 pub mod Stores
 pub mod Appending
 pub mod Tells
+pub mod Ends

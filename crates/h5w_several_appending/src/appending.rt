@@ -7,6 +7,7 @@ ghost use Rattle.h5w_batches.specs.Inputs.{SameSource, input_limit, outside};
 ghost use Rattle.h5w_several_batches.specs.SetLines.{columns_at};
 ghost use Rattle.h5w_several_appending.specs.Taken.{closed_line, columns_in};
 ghost use Rattle.h5w_several_appending.specs.Tells.{SeveralTells};
+ghost use Rattle.h5w_several_appending.specs.Ends.{SeveralTellsEnd};
 ghost use Rattle.h5w_several_appending.specs.Appending.{ClosesBy, FinishesBy, IsBegun, IsReady, ReadyUnlessDisk, SettlesOn, TakesInputFrom, TakesInputOn};
 
 use crate::batching::{Ending, LinePlace, close_batch, take_line};
@@ -18,9 +19,8 @@ use h5w_batches::INPUT_LIMIT;
 use h5w_image::Disk;
 use h5w_input::{Intake, Lines, Next};
 use h5w_names::Names;
-use h5w_several_open::Beginning;
 use h5w_several_writer::SeveralWriter;
-use h5w_text::{ErrorLine, Sink, Source, Status, say, tell, write_numbers};
+use h5w_text::{ErrorLine, Sink, Source, Status, say, say_line, tell, write_numbers};
 use std::alloc::Global;
 
 /// Takes the lines of an input, one after another, to its end, which closes the last batch.
@@ -201,23 +201,19 @@ fn append_all<S: Source, K: Sink, D: Disk>(
     settled
 }
 
-/// Appends the numbers of the source to the datasets that the root group's links of these names lead to, in the file of the name `file`, which
-/// grows to `limit` bytes at most. Each line has the values of rows of the dataset in use, at first the first; a line `use I` says that later ones
-/// mean dataset I, from 1 to their number. An empty line and the end of the input close a batch: the rows of all datasets that wait become
-/// visible, dataset after dataset, and how many rows each has then is written. Of each dataset at most `budget` bytes may wait; a line with which
-/// more would is refused, as for want of memory. Where `keeps` is set no place that is let go is used again. After a refusal what was not closed
-/// is dropped, and nobody writes the file.
+/// Appends the numbers of the source to the datasets that the root group's links of these names lead to, in the file of these terms, which
+/// grows to their `limit` of bytes at most. Each line has the values of rows of the dataset in use, at first the first; a line `use I` says
+/// that later ones mean dataset I, from 1 to their number. An empty line and the end of the input close a batch: the rows of all datasets
+/// that wait become visible, dataset after dataset, and how many rows each has then is written. Of each dataset at most the `budget` of bytes
+/// may wait; a line with which more would is refused, as for want of memory. If `keeps` is set no place that is let go is used again. After a
+/// refusal what was not closed is dropped, and nobody writes the file.
 ///
-/// The file is opened, or taken over where another session left it: that begins with the rows that were flushed, and nobody else may write the
-/// file from then on.
+/// The file is opened, or taken over from another session that left it: that begins with the rows that were flushed, and nobody else may
+/// write the file from then on.
 pub fn append<S: Source, K: Sink, D: Disk>(
     alloc: Global,
-    by: Beginning,
-    file: &str,
+    terms: Terms<'_>,
     names: &Names,
-    limit: u64,
-    budget: u64,
-    keeps: bool,
     source: &mut S,
     sink: &mut K,
     disk: &mut D,
@@ -225,24 +221,18 @@ pub fn append<S: Source, K: Sink, D: Disk>(
     requires some { 1 ≤ length names.now }
     requires few { length names.now ≤ 8 }
     requires names { All (λ name. length name ≤ 512) names.now }
-    requires low { 1024 ≤ limit }
-    requires high { limit ≤ 2 ^ 40 }
-    requires budget { (1024 ≤ budget) × (budget ≤ 2 ^ 30) }
-    ensures tells { SeveralTells by file.now names.now limit (S.view source.old) (S.view source.new) (D.view disk.old) (D.view disk.new) result (K.view sink.old) (K.view sink.new) }
+    requires low { 1024 ≤ terms.limit }
+    requires high { terms.limit ≤ 2 ^ 40 }
+    requires budget { (1024 ≤ terms.budget) × (terms.budget ≤ 2 ^ 30) }
+    ensures tells { SeveralTells terms.entry.by terms.entry.file.now names.now terms.entry.limit (S.view source.old) (S.view source.new) (D.view disk.old) (D.view disk.new) result (K.view sink.old) (K.view sink.new) }
+    ensures ends { SeveralTellsEnd terms.entry.by terms.entry.file.now names.now terms.entry.limit (S.view source.old) (S.view source.new) (D.view disk.old) (D.view disk.new) result (K.view sink.old) (K.view sink.new) }
     ensures source { SameSource (S.view source.old) (S.view source.new) }
 {
-    let terms = Terms {
-        by,
-        file,
-        limit,
-        budget,
-        keeps,
-    };
     let mut text = Vec::new(alloc);
     match append_all(alloc, terms, names, &mut text, source, sink, disk) {
         Ok(()) => say(&text, Status::Done, sink),
         Err(Ending::Refused(error)) => tell(alloc, &error, sink),
-        Err(Ending::Disk) => say(b"error disk\n", Status::Disk, sink),
+        Err(Ending::Disk) => say_line(&ErrorLine::Disk, sink),
         Err(Ending::Sink) => Status::Sink,
     }
 }

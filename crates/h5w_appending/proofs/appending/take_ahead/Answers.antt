@@ -1,4 +1,5 @@
 use Rattle.std.proofs.Common.{◌≡◌, ◌≤◌, ◌++◌, ◌∙◌, [], List, ℤ, Err, refl, length, drop, ap, subst, sym, rules, arith}
+use Rattle.std.proofs.lemmas.Result.{err_from_is_err_and}
 use Rattle.std.proofs.lemmas.Grind.{common_steps}
 use Rattle.h5w_input.specs.LinesAhead.{LinesAhead, lines_ahead}
 use Rattle.h5w_appending.specs.Appends.{columns_of}
@@ -17,7 +18,8 @@ returns-in_err-take_run-clause-ahead g c =
     let singles = singles_taken s a.0 i.held (drop c.values_ahead-bytes.result i.held) i.more i.limit a.2.lines in
     let one : columns_of c.args.session.now ≡ 1 = first_of (search rules, grind (arith, common_steps)) in
     let some : 1 ≤ length values = first_of (search rules, grind (arith, common_steps)) in
-    let e : c.from_residual.result ≡ Err c.in_err-take_run.field-0.0 = search rules in
+    let gone = err_from_is_err_and c.from_residual.result c.from_residual.ensures.1 in
+    let e : c.from_residual.result ≡ Err c.in_err-take_run.field-0.0 = gone.1 ∙ ap (λ x. Err x) gone.2 in
     let x = lines_ahead s i in
     let z = lines_ahead s (record i { held = drop c.values_ahead-bytes.result i.held }) in
     let taken = subst (λ (vs : List ℤ). TakesSingles vs x z) (sym is) singles in

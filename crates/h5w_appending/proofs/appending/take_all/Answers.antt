@@ -1,10 +1,12 @@
-use Rattle.std.proofs.Common.{◌≡◌, ◌≤◌, Err, subst, rules}
+use Rattle.std.proofs.Common.{◌≡◌, ◌≤◌, Err, subst, ◌∙◌, ap}
+use Rattle.std.proofs.lemmas.Result.{err_from_is_err_and}
 use Rattle.h5w_appending.proofs.InputLemmas.{begun_ended, last_wanting, ready_begun, told_begun}
 use Rattle.h5w_appending.proofs.appending.take_all.Goals as goal
 
 pub returns-in_err-put_all-clause-takes : goal.returns-in_err-put_all-clause-takes
 returns-in_err-put_all-clause-takes g c =
-    let is : c.from_residual.result ≡ Err c.in_err-put_all.field-0.0 = search rules in
+    let gone = err_from_is_err_and c.from_residual.result c.from_residual.ensures.1 in
+    let is : c.from_residual.result ≡ Err c.in_err-put_all.field-0.0 = gone.1 ∙ ap (λ x. Err x) gone.2 in
     rw is (begun_ended _ (g.K.Sink.view c.args.sink.now) (g.S.Source.view c.args.source.now) c.args.target.faults c.args.target.file.now c.args.session.now c.put_all.new.session c.in_err-put_all.field-0.0 c.in_err-put_all.ensures c.requires.begun)
 
 pub take_source-requires-clause-ready : goal.take_source-requires-clause-ready
@@ -14,7 +16,8 @@ take_source-requires-clause-ready g c =
 
 pub returns-in_err-take_source-clause-takes : goal.returns-in_err-take_source-clause-takes
 returns-in_err-take_source-clause-takes g c =
-    let is : c.from_residual-in_err-take_source.result ≡ Err c.in_err-take_source.field-0.0 = search rules in
+    let gone = err_from_is_err_and c.from_residual-in_err-take_source.result c.from_residual-in_err-take_source.ensures.1 in
+    let is : c.from_residual-in_err-take_source.result ≡ Err c.in_err-take_source.field-0.0 = gone.1 ∙ ap (λ x. Err x) gone.2 in
     rw is (λ u counted p. c.in_err-take_source.ensures.takes c.args.session.now u (g.K.Sink.view c.args.sink.now) counted (told_begun (g.K.Sink.view c.args.sink.now) c.args.target.faults c.args.target.file.now c.args.session.now c.put_all.new.session counted p c.in_ok-put_all.ensures c.requires.begun))
 
 pub returns-in-Ok-clause-takes : goal.returns-in-Ok-clause-takes

@@ -1,4 +1,5 @@
 use Rattle.std.proofs.Common.{◌≡◌, ◌≤◌, ◌∙◌, [], Some, Err, length, ap, rules, arith}
+use Rattle.std.proofs.lemmas.Result.{err_from_is_err_and}
 use Rattle.std.proofs.lemmas.Grind.{common_steps}
 use Rattle.h5w_appending.proofs.StepLemmas.{line_appends, line_closes, line_columns, line_ready, line_refused}
 use Rattle.h5w_appending.proofs.batching.take_values.Goals as goal
@@ -13,7 +14,8 @@ append_values-requires-clause-rows g c = (c.requires.rows.0, c.requires.rows.1)
 
 pub returns-in_err-append_values-clause-steps : goal.returns-in_err-append_values-clause-steps
 returns-in_err-append_values-clause-steps g c = λ bytes spelled.
-    let is : c.from_residual.result ≡ Err c.in_err-append_values.field-0.0 = search rules in
+    let gone = err_from_is_err_and c.from_residual.result c.from_residual.ensures.1 in
+    let is : c.from_residual.result ≡ Err c.in_err-append_values.field-0.0 = gone.1 ∙ ap (λ x. Err x) gone.2 in
     rw is (line_refused _ c.args.target.faults c.args.target.file.now c.args.session.now c.append_values.new.session bytes c.args.number c.args.values.now c.in_err-append_values.field-0.0 c.in_err-append_values.ensures.unput spelled c.in_err-append_values.ensures.appends)
 
 pub returns-clause-ready : goal.returns-clause-ready

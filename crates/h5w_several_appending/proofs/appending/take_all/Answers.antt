@@ -1,11 +1,13 @@
-use Rattle.std.proofs.Common.{◌≡◌, Err, sym, rules}
+use Rattle.std.proofs.Common.{◌≡◌, Err, sym, ◌∙◌, ap}
+use Rattle.std.proofs.lemmas.Result.{err_from_is_err_and}
 use Rattle.h5w_several_appending.specs.Taken.{columns_in}
 use Rattle.h5w_several_appending.proofs.InputLemmas.{begun_ended, begun_put, columns_put, columns_sets, columns_some, last_line_wanting, told_begun}
 use Rattle.h5w_several_appending.proofs.appending.take_all.Goals as goal
 
 pub returns-in_err-put_all-clause-takes : goal.returns-in_err-put_all-clause-takes
 returns-in_err-put_all-clause-takes g c =
-    let is : c.from_residual.result ≡ Err c.in_err-put_all.field-0.0 = search rules in
+    let gone = err_from_is_err_and c.from_residual.result c.from_residual.ensures.1 in
+    let is : c.from_residual.result ≡ Err c.in_err-put_all.field-0.0 = gone.1 ∙ ap (λ x. Err x) gone.2 in
     let some = columns_some c.columns_each-columns.result (columns_in c.args.session.now.parts) (sym c.columns_each-columns.ensures.columns) c.columns_each-columns.ensures.some in
     rw is (begun_ended _ (g.K.Sink.view c.args.sink.now) (g.S.Source.view c.args.source.now) c.args.target.faults c.args.target.file.now c.args.session.now c.put_all.new.session c.in_err-put_all.field-0.0 some c.in_err-put_all.ensures c.requires)
 
@@ -23,7 +25,8 @@ take_source-requires-clause-sets g c = columns_sets c.columns_each-columns.resul
 
 pub returns-in_err-take_source-clause-takes : goal.returns-in_err-take_source-clause-takes
 returns-in_err-take_source-clause-takes g c =
-    let is : c.from_residual-in_err-take_source.result ≡ Err c.in_err-take_source.field-0.0 = search rules in
+    let gone = err_from_is_err_and c.from_residual-in_err-take_source.result c.from_residual-in_err-take_source.ensures.1 in
+    let is : c.from_residual-in_err-take_source.result ≡ Err c.in_err-take_source.field-0.0 = gone.1 ∙ ap (λ x. Err x) gone.2 in
     let some = columns_some c.columns_each-columns.result (columns_in c.args.session.now.parts) (sym c.columns_each-columns.ensures.columns) c.columns_each-columns.ensures.some in
     rw is (λ u counted p. c.in_err-take_source.ensures.takes c.args.session.now u (g.K.Sink.view c.args.sink.now) counted (told_begun (g.K.Sink.view c.args.sink.now) c.args.target.faults c.args.target.file.now c.args.session.now c.put_all.new.session counted p some c.in_ok-put_all.ensures c.requires))
 

@@ -1,4 +1,5 @@
-use Rattle.std.proofs.Common.{◌≡◌, ◌+◌, ◌∷◌, ◌++◌, [], Err, Some, ap, subst, rules, arith}
+use Rattle.std.proofs.Common.{◌≡◌, ◌+◌, ◌∷◌, ◌++◌, [], Err, Some, ap, subst, rules, arith, ◌∙◌}
+use Rattle.std.proofs.lemmas.Result.{err_from_is_err_and}
 use Rattle.h5w_input.specs.LinesAhead.{lines_ahead}
 use Rattle.h5w_batches.specs.Reads.{error_of}
 use Rattle.h5w_several_batches.specs.SetLines.{set_line_of}
@@ -16,18 +17,21 @@ loop-line-init g c = record {
 
 pub returns-in_err-line-clause-ready : goal.returns-in_err-line-clause-ready
 returns-in_err-line-clause-ready g c =
-    let is : c.from_residual.result ≡ Err (ending_of (error_of c.in_err-line.field-0.0)) = search rules in
+    let gone = err_from_is_err_and c.from_residual.result c.from_residual.ensures.1 in
+    let is : c.from_residual.result ≡ Err (ending_of (error_of c.in_err-line.field-0.0)) = gone.1 ∙ ap (λ x. Err x) gone.2 in
     rw is (ready_unread c.args.target.file.now c.loop-line.session c.in_err-line.field-0.0 c.loop-line.invariant.taking.ready)
 
 pub returns-in_err-line-clause-takes : goal.returns-in_err-line-clause-takes
 returns-in_err-line-clause-takes g c =
-    let is : c.from_residual.result ≡ Err (ending_of (error_of c.in_err-line.field-0.0)) = search rules in
+    let gone = err_from_is_err_and c.from_residual.result c.from_residual.ensures.1 in
+    let is : c.from_residual.result ≡ Err (ending_of (error_of c.in_err-line.field-0.0)) = gone.1 ∙ ap (λ x. Err x) gone.2 in
     rw is (taken_source (g.S.Source.view c.next.new.self.source.now) c.next.new.self.intake.now c.args.target.faults c.args.target.file.now c.args.columns.now c.args.session.now c.loop-line.session c.in_err-line.field-0.0 c.requires.columns c.requires.room c.requires.limit c.loop-line.invariant.taking
     (λ e. c.in_err-line.ensures.cause (ap Err e)) (λ e. c.in_err-line.ensures.failed (ap Err e)) (λ limit e. c.in_err-line.ensures.input limit (ap Err e)))
 
 pub returns-in_err-used-in-Line-clause-takes : goal.returns-in_err-used-in-Line-clause-takes
 returns-in_err-used-in-Line-clause-takes g c =
-    let is : c.from_residual-in_err-used-in-Line.result ≡ Err c.in_err-used-in-Line.field-0.0 = search rules in
+    let gone = err_from_is_err_and c.from_residual-in_err-used-in-Line.result c.from_residual-in_err-used-in-Line.ensures.1 in
+    let is : c.from_residual-in_err-used-in-Line.result ≡ Err c.in_err-used-in-Line.field-0.0 = gone.1 ∙ ap (λ x. Err x) gone.2 in
     let taking = c.loop-line.invariant.taking in
     let given = rw c.in-Line.is at c.in_ok-line.ensures.line in
     rw is (taken_line _ _ (g.S.Source.view c.next.new.self.source.now) c.args.target.faults c.args.target.file.now c.args.columns.now c.args.session.now c.loop-line.session c.take_line.new.session given.0 c.in_err-used-in-Line.field-0.0 c.requires.columns c.requires.room taking
@@ -57,7 +61,8 @@ loop-line-preserved g c =
 
 pub returns-in_err-take_line-in-Last-clause-takes : goal.returns-in_err-take_line-in-Last-clause-takes
 returns-in_err-take_line-in-Last-clause-takes g c =
-    let is : c.from_residual-in_err-take_line-in-Last.result ≡ Err c.in_err-take_line-in-Last.field-0.0 = search rules in
+    let gone = err_from_is_err_and c.from_residual-in_err-take_line-in-Last.result c.from_residual-in_err-take_line-in-Last.ensures.1 in
+    let is : c.from_residual-in_err-take_line-in-Last.result ≡ Err c.in_err-take_line-in-Last.field-0.0 = gone.1 ∙ ap (λ x. Err x) gone.2 in
     let taking = c.loop-line.invariant.taking in
     let given = rw c.in-Last.is at c.in_ok-line.ensures.line in
     rw is (taken_line _ _ (g.S.Source.view c.next.new.self.source.now) c.args.target.faults c.args.target.file.now c.args.columns.now c.args.session.now c.loop-line.session c.take_line-in-Last.new.session given.0 c.in_err-take_line-in-Last.field-0.0 c.requires.columns c.requires.room taking

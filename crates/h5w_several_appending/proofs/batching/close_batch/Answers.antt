@@ -1,4 +1,5 @@
-use Rattle.std.proofs.Common.{◌≡◌, length, map, ap, Err, rules}
+use Rattle.std.proofs.Common.{◌≡◌, length, map, ap, Err, rules, ◌∙◌}
+use Rattle.std.proofs.lemmas.Result.{err_from_is_err_and}
 use Rattle.h5w_writer.specs.Sessions.{rows_of}
 use Rattle.h5w_several_writer_laws.specs.Sessions.{all_pending}
 use Rattle.h5w_several_appending.specs.Taken.{columns_in, told_line}
@@ -10,12 +11,14 @@ returns-in-Err-clause-closes g c = closes_wanting c.args.target.faults c.args.ta
 
 pub returns-in_err-flush-clause-ready : goal.returns-in_err-flush-clause-ready
 returns-in_err-flush-clause-ready g c =
-    let is : c.from_residual.result ≡ Err c.in_err-flush.field-0.0 = search rules in
+    let gone = err_from_is_err_and c.from_residual.result c.from_residual.ensures.1 in
+    let is : c.from_residual.result ≡ Err c.in_err-flush.field-0.0 = gone.1 ∙ ap (λ x. Err x) gone.2 in
     rw is (ready_flush_ended c.args.target.file.now c.args.session.now c.flush.new.session c.in_err-flush.field-0.0 c.in_err-flush.ensures.unput c.in_err-flush.ensures.flushes c.requires)
 
 pub returns-in_err-flush-clause-closes : goal.returns-in_err-flush-clause-closes
 returns-in_err-flush-clause-closes g c =
-    let is : c.from_residual.result ≡ Err c.in_err-flush.field-0.0 = search rules in
+    let gone = err_from_is_err_and c.from_residual.result c.from_residual.ensures.1 in
+    let is : c.from_residual.result ≡ Err c.in_err-flush.field-0.0 = gone.1 ∙ ap (λ x. Err x) gone.2 in
     rw is (closes_ended (g.K.Sink.view c.args.sink.now) c.args.target.faults c.args.target.file.now c.args.session.now c.flush.new.session c.in_err-flush.field-0.0 c.requires c.in_err-flush.ensures.unput c.in_err-flush.ensures.flushes)
 
 pub returns-then-pending-eq0-clause-ready : goal.returns-then-pending-eq0-clause-ready
@@ -35,12 +38,14 @@ returns-then-pending-eq0-clause-closes g c =
 
 pub returns-in_err-put_all-clause-ready : goal.returns-in_err-put_all-clause-ready
 returns-in_err-put_all-clause-ready g c =
-    let is : c.from_residual-in_err-put_all.result ≡ Err c.in_err-put_all.field-0.0 = search rules in
+    let gone = err_from_is_err_and c.from_residual-in_err-put_all.result c.from_residual-in_err-put_all.ensures.1 in
+    let is : c.from_residual-in_err-put_all.result ≡ Err c.in_err-put_all.field-0.0 = gone.1 ∙ ap (λ x. Err x) gone.2 in
     rw is (ready_puts_ended _ _ c.args.target.faults c.args.target.file.now c.flush.new.session c.put_all.new.session c.in_err-put_all.field-0.0 c.in_err-put_all.ensures)
 
 pub returns-in_err-put_all-clause-closes : goal.returns-in_err-put_all-clause-closes
 returns-in_err-put_all-clause-closes g c =
-    let is : c.from_residual-in_err-put_all.result ≡ Err c.in_err-put_all.field-0.0 = search rules in
+    let gone = err_from_is_err_and c.from_residual-in_err-put_all.result c.from_residual-in_err-put_all.ensures.1 in
+    let is : c.from_residual-in_err-put_all.result ≡ Err c.in_err-put_all.field-0.0 = gone.1 ∙ ap (λ x. Err x) gone.2 in
     let plan = some_planned c.args.target.file.now c.args.session.now c.flush.new.session c.requires c.in_ok-flush.ensures.flushes (search rules) in
     rw is (closes_broke _ (g.K.Sink.view c.args.sink.now) c.args.target.faults c.args.target.file.now c.args.session.now c.flush.new.session c.put_all.new.session c.in_err-put_all.field-0.0 c.requires c.in_ok-flush.ensures.unput plan c.in_err-put_all.ensures)
 
