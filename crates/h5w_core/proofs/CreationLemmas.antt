@@ -15,8 +15,8 @@ use Rattle.h5w_options.specs.Options.{AreOptions}
 use Rattle.h5w_options.specs.declared.options.Options.{Options}
 use Rattle.h5w_creation_laws.specs.CreatedFiles.{block_write, created_blocks, created_log, created_writes}
 use Rattle.h5w_writer.specs.Creations.{IsCreated}
-use Rattle.h5w_form.specs.NewFiles.{new_file}
-use Rattle.h5w_form.proofs.OptionLemmas.{creatable}
+use Rattle.h5w_creation.specs.NewFiles.{new_file}
+use Rattle.h5w_creation.proofs.OptionLemmas.{creatable}
 use Rattle.h5w_writer.specs.Room.{HasRoomFor}
 use Rattle.h5w_writer.specs.Sessions.{Session, AfterPiece, cutting_of}
 use Rattle.h5w_writer.specs.Stands.{Stands}
@@ -25,11 +25,12 @@ use Rattle.h5w_core.specs.Creation.{Creates}
 use Rattle.h5w_core.specs.Readers.{placed, reader_at}
 use Rattle.h5w_steady.specs.Steady.{steady}
 use Rattle.h5w_core.specs.Worlds.{HaveOneLog, HoldsTogether, IsNewWorld, nobody, polling_of}
-use Rattle.h5w_core.proofs.ShowLemmas.{after_facts, same_cutting, still_piece}
+use Rattle.h5w_core.proofs.ShowLemmas.{same_cutting}
 use Rattle.h5w_core.proofs.StateLemmas.{new_now}
 use Rattle.h5w_core.proofs.WorldLemmas.{world_of}
 use Rattle.h5w_writer.proofs.PastLemmas.{spent_in-events}
 use Rattle.h5w_writer.proofs.StateLemmas.{some_is}
+use Rattle.h5w_writer_laws.proofs.LeavingLemmas.{piece_leaves}
 
 -- how many they are
 abbrev pub total : Options → ℕ
@@ -73,8 +74,8 @@ piece_more : (o : Options) (count : ℕ) (s t : Session) (m n : MemView) (piece 
     → Wrote (piece ∷ []) (steady m) (steady n) → ((log : Log) → Stands s log → Stands t (and_now (shows piece) log)) → HasRoomFor t (steady n) → Creates o (count + 1) t n
 piece_more o count s t m n piece pieces pending start shown wrote stands room =
     let log = start.log in
-    let after = after_facts s pieces t shown in
-    let is = still_piece s pieces t start.no_flush shown in
+    let after = piece_leaves s t pieces shown in
+    let is = after.still start.no_flush in
     let history : n.history ≡ m.history ++ piece ∷ [] = some_is n.history (m.history ++ piece ∷ []) wrote.history in
     record {
       log = and_now (shows piece) log;

@@ -1,15 +1,15 @@
-pub mod PlaceLemmas
-pub mod HoldsLemmas
+mod PlaceLemmas
+mod HoldsLemmas
 pub mod StateLemmas
-pub mod WorldLemmas
+mod WorldLemmas
 pub mod AppendLemmas
-pub mod FlushLemmas
-pub mod ShowLemmas
-pub mod CreationLemmas
-pub mod StepLemmas
-pub mod RunLemmas
-pub mod PollLemmas
-pub mod HoldLemmas
+mod FlushLemmas
+mod ShowLemmas
+mod CreationLemmas
+mod StepLemmas
+mod RunLemmas
+mod PollLemmas
+mod HoldLemmas
 pub mod ReaderLemmas
-pub mod NameLemmas
-pub mod WritingLemmas
+mod NameLemmas
+mod WritingLemmas

@@ -6,7 +6,7 @@ use Rattle.h5w_writer.specs.Flushes.{SameBut}
 use Rattle.h5w_writer.specs.Sessions.{AddsValues, AfterPiece, Session, TakesRows}
 use Rattle.h5w_writer.specs.declared.refusal.AppendError.{AppendError}
 use Rattle.h5w_writer.specs.declared.refusal.FlushError.{FlushError}
-use Rattle.h5w_core.proofs.ShowLemmas.{after_facts}
+use Rattle.h5w_writer_laws.proofs.LeavingLemmas.{piece_leaves}
 
 pub append_named : (s t : Session) (vs : List ℤ) (r : Result ℕ AppendError) → OnOk r (AddsValues s vs t) → OnErr r (t ≡ s) → t.name ≡ s.name
 append_named s t vs (Ok rows) added kept = ap (λ (x : Session). x.name) added.session
@@ -21,4 +21,4 @@ shown_named s t nothing piece = go s.pending refl
   where
     go : (ws : List Write) → s.pending ≡ ws → t.name ≡ s.name
     go [] is = ap (λ (x : Session). x.name) (nothing is)
-    go (w ∷ ws) is = (after_facts s ws t (piece w ws is)).name
+    go (w ∷ ws) is = (piece_leaves s t ws (piece w ws is)).name

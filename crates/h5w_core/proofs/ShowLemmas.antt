@@ -13,7 +13,7 @@ use Rattle.h5w_script_laws.specs.Polling.{Polling, now}
 use Rattle.h5w_script_laws.specs.Scripts.{AllPoll}
 use Rattle.h5w_script_laws.proofs.ScriptLemmas.{writer_line_laws}
 use Rattle.h5w_model.specs.Datasets.{Described}
-use Rattle.h5w_writer.specs.Sessions.{Session, AfterPiece, Settles, cutting_of, rows_of}
+use Rattle.h5w_writer.specs.Sessions.{Session, AfterPiece, cutting_of, rows_of}
 use Rattle.h5w_writer.specs.Stands.{Stands}
 use Rattle.h5w_writer.proofs.LawLemmas.{standing_laws}
 use Rattle.h5w_core.specs.Worlds.{WorldView, HaveOneLog, IsStateOf, StandsFor, Steps, logged, polling_by, polling_of, rules_of, shown_world}
@@ -24,7 +24,8 @@ use Rattle.h5w_image.specs.View.{Wrote}
 use Rattle.h5w_reader.specs.declared.reader.ReaderCore.{ReaderCore}
 use Rattle.h5w_core.specs.Readers.{reader_at}
 use Rattle.h5w_steady.specs.Steady.{steady}
-use Rattle.h5w_writer_laws.proofs.PieceLemmas.{freed_limit}
+use Rattle.h5w_writer_laws.specs.Leaves.{PieceLeaves}
+use Rattle.h5w_writer_laws.proofs.LeavingLemmas.{piece_leaves}
 use Rattle.h5w_writer.proofs.PastLemmas.{spent_in-events}
 
 -- ---- Nothing is pending
@@ -65,52 +66,14 @@ idle_steps w none =
 
 -- ---- A piece becomes visible
 
--- what a piece leaves of its session
-pub record AfterFacts (s t : Session) (ws : List Write) : Type 0 where
-  pub name : t.name ≡ s.name
-  pub dataset : t.dataset ≡ s.dataset
-  pub limit : t.places.limit ≡ s.places.limit
-  pub budget : t.budget ≡ s.budget
-  pub waits : t.waits ≡ s.waits
-  pub stopped : t.stopped ≡ s.stopped
-  pub pending : t.pending ≡ ws
-
--- of one that has nothing but other pieces
-pending_facts : (s : Session) (ws : List Write) → AfterFacts s (record s { pending = ws }) ws
-pending_facts s ws = record { name = refl; dataset = refl; limit = refl; budget = refl; waits = refl; stopped = refl; pending = refl }
-
--- of one whose pieces are all visible, by whether they were a flush
-settled_facts : (b : Bool) (s t : Session) → Settles b s t → AfterFacts s t []
-settled_facts true s t settles =
-    subst (λ (x : Session). AfterFacts s x []) (sym settles.1)
-    (record { name = refl; dataset = refl; limit = freed_limit s.keeps s.places t.places settles.0; budget = refl; waits = refl; stopped = refl; pending = refl })
-settled_facts false s t is = subst (λ (x : Session). AfterFacts s x []) (sym is) (pending_facts s [])
-
-pub after_facts : (s : Session) (ws : List Write) (t : Session) → AfterPiece s ws t → AfterFacts s t ws
-after_facts s [] t settles = settled_facts s.flushing s t settles
-after_facts s (w ∷ ws) t is = subst (λ (x : Session). AfterFacts s x (w ∷ ws)) (sym is) (pending_facts s (w ∷ ws))
-
--- the last piece leaves no flush
-settled_still : (b : Bool) (s t : Session) → s.flushing ≡ b → Settles b s t → t.flushing ≡ false
-settled_still true s t ends settles = ap (λ (x : Session). x.flushing) settles.1
-settled_still false s t still is = ap (λ (x : Session). x.flushing) is ∙ still
-
-no_flush_left : (s t : Session) → AfterPiece s [] t → t.flushing ≡ false
-no_flush_left s t settles = settled_still s.flushing s t refl settles
-
--- pieces of no flush leave nothing but themselves
-pub still_piece : (s : Session) (ws : List Write) (t : Session) → s.flushing ≡ false → AfterPiece s ws t → t ≡ record s { pending = ws }
-still_piece s [] t still settles = subst (λ (b : Bool). Settles b s t) still settles
-still_piece s (w ∷ ws) t still is = is
-
 -- so rules and polling stay
-pub shown_rules : (w : WorldView) (piece : Write) (t : Session) (ws : List Write) → AfterFacts w.session t ws → rules_of (shown_world w piece t) ≡ rules_of w
+pub shown_rules : (w : WorldView) (piece : Write) (t : Session) (ws : List Write) → PieceLeaves w.session ws t → rules_of (shown_world w piece t) ≡ rules_of w
 shown_rules w piece t ws after = λ i. rules_by (after.dataset i) (after.limit i) (after.budget i) w.attempts
 
-shown_polling : (w : WorldView) (piece : Write) (t : Session) (ws : List Write) → AfterFacts w.session t ws → polling_of (shown_world w piece t) ≡ polling_of w
+shown_polling : (w : WorldView) (piece : Write) (t : Session) (ws : List Write) → PieceLeaves w.session ws t → polling_of (shown_world w piece t) ≡ polling_of w
 shown_polling w piece t ws after = λ i. polling_by (after.name i) (rules_by (after.dataset i) (after.limit i) (after.budget i) w.attempts)
 
-pub same_cutting : (s t : Session) (ws : List Write) → AfterFacts s t ws → cutting_of t ≡ cutting_of s
+pub same_cutting : (s t : Session) (ws : List Write) → PieceLeaves s ws t → cutting_of t ≡ cutting_of s
 same_cutting s t ws after =
     ap (λ (d : Described). record { chunk_rows = d.layout.chunk_rows; chunk_columns = d.layout.chunk_cols; columns = d.shape.cols; value_size = d.int_type.size }) after.dataset
 
@@ -153,11 +116,11 @@ last_alone s log piece one ends (inl more) = absurd (omega arith)
 last_alone s log piece one ends (inr open_still) = let clash : true ≡ false = sym ends ∙ open_still in cc
 
 -- readers poll on, and the loads stay
-shown_polls : (w : WorldView) (piece : Write) (t : Session) (ws : List Write) (s : ScriptState) (log : Log) → AfterFacts w.session t ws → AllPoll (polling_of w) (and_now (shows piece) log) s (reader_at w.readers)
+shown_polls : (w : WorldView) (piece : Write) (t : Session) (ws : List Write) (s : ScriptState) (log : Log) → PieceLeaves w.session ws t → AllPoll (polling_of w) (and_now (shows piece) log) s (reader_at w.readers)
     → AllPoll (polling_of (shown_world w piece t)) (and_now (shows piece) log) s (reader_at w.readers)
 shown_polls w piece t ws s log after polls = subst (λ (g : Polling). AllPoll g (and_now (shows piece) log) s (reader_at w.readers)) (sym (shown_polling w piece t ws after)) polls
 
-shown_spent : (w : WorldView) (piece : Write) (t : Session) (ws : List Write) (n : ℕ) (log : Log) → AfterFacts w.session t ws → n ≡ spent (cutting_of w.session) log → n ≡ spent (cutting_of t) (and_now (shows piece) log)
+shown_spent : (w : WorldView) (piece : Write) (t : Session) (ws : List Write) (n : ℕ) (log : Log) → PieceLeaves w.session ws t → n ≡ spent (cutting_of w.session) log → n ≡ spent (cutting_of t) (and_now (shows piece) log)
 shown_spent w piece t ws n log after is =
     is ∙ sym (spent_in-events (cutting_of w.session) log (shows piece ∷ log.events) log.events) ∙ ap (λ (c : Cutting). spent c (and_now (shows piece) log)) (sym (same_cutting w.session t ws after))
 
@@ -165,21 +128,20 @@ shown_spent w piece t ws n log after is =
 last_shown : (w : WorldView) (piece : Write) (t : Session) (s : ScriptState) (log : Log) → w.session.pending ≡ piece ∷ [] → w.session.flushing ≡ true → AfterPiece w.session [] t → Stands w.session log
     → Stands t (and_now (shows piece) log) → IsStateOf w s log → IsStateOf (shown_world w piece t) (committed (rules_of w) s) (and_now (shows piece) log)
 last_shown w piece t s log pending flushing shown stood stands state =
-    let after = after_facts w.session [] t shown in
-    let settles : Settles true w.session t = subst (λ (b : Bool). Settles b w.session t) flushing shown in
+    let after = piece_leaves w.session t [] shown in
     let one : s.pending ≡ 1 = state.pending ∙ ap length pending in
     let ends : s.ends_flush ≡ true = state.ends_flush ∙ flushing in
     let none_wait : w.session.waits ≡ 0 = state.taken flushing in
     let rows : rows_of w.session ≡ rows_in (rules_of w) s.appended = standing_laws.appended_rows w.session log stood ∙ in_rows w.session log (appended log) stood ∙ ap (λ (vs : List ℤ). rows_in (rules_of w) vs) (sym state.appended) in
-    let committed_is : t.committed ≡ w.session.dataset.shape.rows = ap (λ (x : Session). x.committed) settles.1 in
+    let committed_is : t.committed ≡ w.session.dataset.shape.rows = after.brings flushing refl in
     let all : rows_in (rules_of w) s.appended ≡ t.committed = omega (arith, rows, none_wait, committed_is) in
     record {
       appended = state.appended;
       flushed = all ∙ standing_laws.flushed_rows t (and_now (shows piece) log) stands;
       pending = sym (ap length after.pending);
-      ends_flush = sym (no_flush_left w.session t shown);
+      ends_flush = sym (after.idle refl);
       taken = λ flush. after.waits ∙ none_wait;
-      idle = λ none. no_flush_left w.session t shown;
+      idle = λ none. after.idle refl;
       spent = shown_spent w piece t [] s.spent log after state.spent;
       stopped = state.stopped ∙ sym after.stopped;
       tries = state.tries;
@@ -194,11 +156,11 @@ last_shown w piece t s log pending flushing shown stood stands state =
 early_shown : (w : WorldView) (piece : Write) (t : Session) (s : ScriptState) (log : Log) → w.session.pending ≡ piece ∷ [] → w.session.flushing ≡ false → AfterPiece w.session [] t → Stands w.session log
     → Stands t (and_now (shows piece) log) → IsStateOf w s log → IsStateOf (shown_world w piece t) (record s { pending = 0 }) (and_now (shows piece) log)
 early_shown w piece t s log pending still shown stood stands state =
-    let after = after_facts w.session [] t shown in
-    let none = no_flush_left w.session t shown in
+    let after = piece_leaves w.session t [] shown in
+    let none = after.idle refl in
     let one : s.pending ≡ 1 = state.pending ∙ ap length pending in
     let open_still : s.ends_flush ≡ false = state.ends_flush ∙ still in
-    let same : t.committed ≡ w.session.committed = ap (λ (x : Session). x.committed) (still_piece w.session [] t still shown) in
+    let same : t.committed ≡ w.session.committed = ap (λ (x : Session). x.committed) (after.still still) in
     let level : flushed_rows log ≡ flushed_rows (and_now (shows piece) log) =
     sym (standing_laws.flushed_rows w.session log stood) ∙ sym same ∙ standing_laws.flushed_rows t (and_now (shows piece) log) stands in
     record {
@@ -222,7 +184,7 @@ early_shown w piece t s log pending still shown stood stands state =
 more_shown : (w : WorldView) (piece next : Write) (rest : List Write) (t : Session) (s : ScriptState) (log : Log) → w.session.pending ≡ piece ∷ next ∷ rest → AfterPiece w.session (next ∷ rest) t → Stands w.session log
     → Stands t (and_now (shows piece) log) → IsStateOf w s log → IsStateOf (shown_world w piece t) (record s { pending = s.pending - 1 }) (and_now (shows piece) log)
 more_shown w piece next rest t s log pending shown stood stands state =
-    let after = after_facts w.session (next ∷ rest) t shown in
+    let after = piece_leaves w.session t (next ∷ rest) shown in
     let count : s.pending ≡ suc (length (next ∷ rest)) = state.pending ∙ ap length pending in
     let same : t.committed ≡ w.session.committed = ap (λ (x : Session). x.committed) shown in
     let level : flushed_rows log ≡ flushed_rows (and_now (shows piece) log) =
@@ -272,7 +234,7 @@ pub piece_steps : (w : WorldView) (piece : Write) (pieces : List Write) (t : Ses
     → Steps w events.Visible (replies.Written 1 (length pieces)) (shown_world w piece t)
 piece_steps w piece pieces t pending shown carries =
     record {
-      rules = shown_rules w piece t pieces (after_facts w.session pieces t shown);
+      rules = shown_rules w piece t pieces (piece_leaves w.session t pieces shown);
       lawful = λ s fits.
           let count : s.pending ≡ suc (length pieces) = fits.state.pending ∙ ap length pending in
           let one : 1 ≡ min 1 s.pending = omega arith in
@@ -289,7 +251,7 @@ pub show_done : (s t : Session) (m n : MemView) (attempts left : ℕ) (readers :
     → Wrote (piece ∷ []) (steady m) (steady n) → AfterPiece s pieces t → left ≡ length t.pending → ((log : Log) → Stands s log → Stands t (and_now (shows piece) log))
     → Steps w events.Visible (replies.Written 1 left) (world_of t n attempts readers)
 show_done s t m n attempts left readers w piece pieces view pending wrote shown count stands =
-    let after = after_facts s pieces t shown in
+    let after = piece_leaves s t pieces shown in
     let rest : left ≡ length pieces = count ∙ ap length after.pending in
     let steps = piece_steps (world_of s m attempts readers) piece pieces t pending shown stands in
     subst (λ (x : WorldView). Steps x events.Visible (replies.Written 1 left) (world_of t n attempts readers)) view

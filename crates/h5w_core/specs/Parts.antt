@@ -1,9 +1,9 @@
 -- The parts of a world that was taken apart.
-use Rattle.std.specs.Prelude.{◌≡◌, ◌≤◌, ◌^◌, length}
-use Rattle.h5w_core.specs.Worlds.{WorldView}
+use Rattle.std.specs.Prelude.{◌≡◌, length}
+use Rattle.h5w_core.specs.Worlds.{IsBudget, WorldView}
 use Rattle.h5w_core.specs.declared.parts.WorldParts.{WorldParts}
 
--- They are those of this world; the limit and the budget, one that a session may have, are its session's, and readers 0 to 16 have a place.
+-- They are those of this world; the budget is one that a session may have, and readers 0 to 16 have a place.
 pub record IsApart (w : WorldView) (p : WorldParts) : Type 0 where
   pub session : p.session ≡ w.session
   pub bytes : p.image.bytes ≡ w.bytes
@@ -11,6 +11,4 @@ pub record IsApart (w : WorldView) (p : WorldParts) : Type 0 where
   pub attempts : p.attempts ≡ w.attempts
   pub readers : p.readers.items ≡ w.readers
   pub places : length w.readers ≡ 17
-  pub limit : p.limit ≡ w.session.places.limit
-  pub budget : p.budget ≡ w.session.budget
-  pub allowed : (1024 ≤ p.budget) × (p.budget ≤ 2 ^ 30)
+  pub allowed : IsBudget w.session.budget

@@ -24,7 +24,7 @@ use Rattle.h5w_steady.specs.Steady.{steady}
 use Rattle.h5w_types.specs.Fields.{int_type_of}
 use Rattle.h5w_creation_laws.specs.CreatedFiles.{created_writes}
 use Rattle.h5w_writer.specs.Creations.{log_of}
-use Rattle.h5w_form.specs.NewFiles.{new_file}
+use Rattle.h5w_creation.specs.NewFiles.{new_file}
 use Rattle.h5w_writer.specs.Refusals.{append_refusal, flush_refusal}
 use Rattle.h5w_writer.specs.Room.{HasRoomFor}
 use Rattle.h5w_writer.specs.Flushes.{SameBut}
@@ -125,15 +125,16 @@ pub record HoldsTogether (s : Session) (m : MemView) (attempts : ℕ) (readers :
   pub script : ScriptState
   pub fits : HaveOneLog (record { session = s; bytes = m.bytes; journal = m.history; attempts = attempts; readers = readers }) script
 
+-- a budget that a session may have
+abbrev pub IsBudget : ℕ → Type 0
+IsBudget budget = (1024 ≤ budget) × (budget ≤ 2 ^ 30)
+
 -- What another writer needs that takes the file over. The image says that it is written, and so do the session's superblock and the pieces that
--- are pending. The session has this limit and this budget, which is one that a session may have, and was stopped or not.
-pub record IsWriting (limit budget : ℕ) (stopped : Bool) (s : Session) (m : MemView) : Type 0 where
+-- are pending. The session's budget is one that a session may have.
+pub record IsWriting (s : Session) (m : MemView) : Type 0 where
   pub front : IsLeftOpen m.bytes
   pub keeps : KeepsWritten s
-  pub limited : limit ≡ s.places.limit
-  pub budgeted : budget ≡ s.budget
-  pub allowed : (1024 ≤ budget) × (budget ≤ 2 ^ 30)
-  pub stops : stopped ≡ s.stopped
+  pub allowed : IsBudget s.budget
 
 -- what a log is after an event that was given a reply: a refused one adds nothing
 abbrev pub logged : WorldView → Event → Reply → Log → Log

@@ -12,7 +12,4 @@ pub struct WorldParts {
     pub attempts: u32,
     /// A place for each reader, by its number.
     pub readers: Vec<Option<ReaderCore>>,
-    /// The most bytes of the file, and the most that may wait unwritten after an append.
-    pub limit: u64,
-    pub budget: u64,
 }

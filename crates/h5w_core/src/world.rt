@@ -1,5 +1,5 @@
 //! The world of one writer and its readers.
-ghost use Rattle.std.specs.Prelude.{◌≡◌, ◌≤◌, [], ◌∷◌, ◌^◌, List, length, IfOk, IsOk, None, Ok, OnErr, option_map};
+ghost use Rattle.std.specs.Prelude.{◌<◌, ◌≡◌, ◌≤◌, [], ◌∷◌, ◌^◌, List, length, IfOk, IsOk, None, Ok, OnErr, option_map};
 ghost use Rattle.h5w_model.specs.Images.{image};
 ghost use Rattle.h5w_model.specs.Lawful.{ScriptState, Allowed, at_first, line_of, next_state};
 ghost use Rattle.h5w_model.specs.Logs.{Log, and_now, shows};
@@ -9,7 +9,7 @@ ghost use Rattle.h5w_model.specs.declared.piece.Write.{Write};
 ghost use Rattle.h5w_image.specs.View.{Wrote};
 ghost use Rattle.h5w_space.specs.declared.Full.{Full};
 ghost use Rattle.h5w_creation_laws.specs.CreatedFiles.{created_writes};
-ghost use Rattle.h5w_form.specs.NewFiles.{new_file};
+ghost use Rattle.h5w_creation.specs.NewFiles.{new_file};
 ghost use Rattle.h5w_writer.specs.Refusals.{IsFullFor};
 ghost use Rattle.h5w_writer.specs.Room.{HasRoomFor};
 ghost use Rattle.h5w_writer.specs.Sessions.{AfterPiece, rows_of as session_rows};
@@ -17,7 +17,7 @@ ghost use Rattle.h5w_writer.specs.Stands.{Stands};
 ghost use Rattle.h5w_core.specs.Readers.{IsCalling, MayRead, ended, reader_at};
 ghost use Rattle.h5w_steady.specs.Steady.{steady};
 ghost use Rattle.h5w_front_laws.specs.Fronts.{IsLeftOpen};
-ghost use Rattle.h5w_core.specs.Creation.{Creates};
+ghost use Rattle.h5w_core.specs.Creation.{Creates, IsCreating};
 ghost use Rattle.h5w_core.specs.Parts.{IsApart};
 ghost use Rattle.h5w_core.specs.Worlds.{AreRowsBy, HaveOneLog, HoldsMore, IsHeard, IsKept, IsLeft, IsNewWorld, MayWantMemory, StandsFor, Steps, full_reply, logged, nobody, rules_for, rules_of};
 
@@ -42,11 +42,6 @@ pub struct World {
     attempts: u32,
     /// A place for each reader, by its number.
     readers: Vec<Option<ReaderCore>>,
-    /// The most bytes of the file, and the most that may wait unwritten after an append.
-    limit: u64,
-    budget: u64,
-    /// Whether the writer was stopped.
-    stopped: bool,
 }
 
 impl Model for World {
@@ -61,7 +56,7 @@ impl Model for World {
 
     ghost view = { λ w. record { session = w.session; bytes = w.image.bytes; journal = w.image.history; attempts = w.attempts; readers = w.readers.items } };
 
-    ghost invariant = { λ w. HoldsTogether w.session w.image w.attempts w.readers.items × IsWriting w.limit w.budget w.stopped w.session w.image };
+    ghost invariant = { λ w. HoldsTogether w.session w.image w.attempts w.readers.items × IsWriting w.session w.image };
 }
 
 /// The oldest pending piece becomes visible, where there is one. Answers how many pieces became visible.
@@ -102,16 +97,33 @@ fn show_all(session: &mut WriterCore, image: &mut SteadyImage)
     }
 }
 
+/// Lets a writer go. It has many parts, and each place that lets it go is dear to prove.
+fn release(_session: WriterCore) {}
+
+/// An image in which all pieces of a file are visible that a writer has just created.
+fn shown(alloc: Global, session: &mut WriterCore) -> Result<SteadyImage, OutOfMemory>
+    requires { length session.old.pending < 2 ^ 32 }
+    ensures { (options : Options) → IsCreating options session.old → IfOk result (λ image. Creates options (length (created_writes (new_file options))) session.new image) }
+{
+    let mut image = SteadyImage::new(alloc)?;
+    image.make_room(session.pending() + 1, session.end())?;
+    show_all(session, &mut image);
+    Ok(image)
+}
+
 /// A writer that created a file, all of whose pieces are visible.
 fn create(alloc: Global, options: &Options) -> Result<(WriterCore, SteadyImage), OutOfMemory>
     requires { AreOptions options.now }
     ensures { IfOk result (λ made. Creates options.now (length (created_writes (new_file options.now))) made.0 made.1) }
 {
-    let mut image = SteadyImage::new(alloc)?;
     let mut session = WriterCore::create(alloc, options)?;
-    image.make_room(session.pending() + 1, session.end())?;
-    show_all(&mut session, &mut image);
-    Ok((session, image))
+    match shown(alloc, &mut session) {
+        Ok(image) => Ok((session, image)),
+        Err(error) => {
+            release(session);
+            Err(error)
+        }
+    }
 }
 
 impl World {
@@ -132,9 +144,6 @@ impl World {
             image,
             attempts,
             readers,
-            limit: options.limit,
-            budget: options.budget,
-            stopped: false,
         })
     }
 
@@ -249,7 +258,6 @@ impl World {
         ensures named { self.new.session.name ≡ self.old.session.name }
     {
         self.session.stop();
-        self.stopped = true;
         Reply::Stopped
     }
 
@@ -338,7 +346,7 @@ impl World {
     pub fn is_stopped(&self) -> bool
         ensures { result ≡ self.now.session.stopped }
     {
-        self.stopped
+        self.session.is_stopped()
     }
 
     /// Takes the world apart, as another writer does that goes on with its file. The image says that it is written, also in
@@ -354,8 +362,6 @@ impl World {
             image,
             attempts,
             readers,
-            limit,
-            budget,
             ..
         } = self;
         WorldParts {
@@ -363,8 +369,6 @@ impl World {
             image,
             attempts,
             readers,
-            limit,
-            budget,
         }
     }
 }

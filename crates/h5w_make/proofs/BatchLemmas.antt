@@ -20,7 +20,7 @@ use Rattle.h5w_writer.specs.Creations.{IsCreated, log_of}
 use Rattle.h5w_writer.specs.Past.{IsNew}
 use Rattle.h5w_writer.specs.Room.{HasRoomFor}
 use Rattle.h5w_writer.specs.Refusals.{IsSpace, append_refusal, chunks_refusal, flush_refusal}
-use Rattle.h5w_writer.specs.Sessions.{AddsValues, AfterPiece, Session, Settles, TakesRows, chunk_limit, chunks_with, cleared, closed_of, closed_root, cutting_of, rows_of, with_rows, with_values, IsNamed}
+use Rattle.h5w_writer.specs.Sessions.{AddsValues, AfterPiece, Session, TakesRows, chunk_limit, chunks_with, cleared, closed_of, closed_root, cutting_of, rows_of, with_rows, with_values, IsNamed}
 use Rattle.h5w_writer.specs.Stands.{Stands}
 use Rattle.h5w_writer.specs.declared.refusal.AppendError.{AppendError}
 use Rattle.h5w_writer.specs.declared.refusal.AppendError.TheVariants as errors
@@ -36,33 +36,8 @@ use Rattle.h5w_make.proofs.EventLemmas.{appended_batches, cutting, load_bound, s
 use Rattle.h5w_writer.proofs.FlushCalls.{takes_named}
 use Rattle.h5w_reader_laws.proofs.ShowingLemmas.{appended_showing, hist_showing}
 use Rattle.h5w_writer.proofs.StateLemmas.{some_is}
-use Rattle.h5w_writer_laws.proofs.PieceLemmas.{after_pending, freed_limit, itself, none_some, onward}
-
--- ---- Once all pieces became visible
-
-record AllShown (s t : Session) : Type 0 where
-  name : t.name ≡ s.name
-  dataset : t.dataset ≡ s.dataset
-  limit : t.places.limit ≡ s.places.limit
-  waits : t.waits ≡ s.waits
-  stopped : t.stopped ≡ s.stopped
-  pending : t.pending ≡ []
-  no_flush : t.flushing ≡ false
-
--- whether they were a flush or not
-settled : (b : Bool) (s t : Session) → s.flushing ≡ b → Settles b s t → AllShown s t
-settled true s t flush settles =
-    subst (λ (x : Session). AllShown s x) (sym settles.1)
-    (record { name = refl; dataset = refl; limit = freed_limit s.keeps s.places t.places settles.0; waits = refl; stopped = refl; pending = refl; no_flush = refl })
-settled false s t still is =
-    subst (λ (x : Session). AllShown s x) (sym is) (record { name = refl; dataset = refl; limit = refl; waits = refl; stopped = refl; pending = refl; no_flush = still })
-
-all_shown : (s t : Session) → AfterPiece s [] t → AllShown s t
-all_shown s t settles = settled s.flushing s t refl settles
-
--- pieces of no flush leave nothing but themselves
-pub still_shown : (s t : Session) → s.flushing ≡ false → AfterPiece s [] t → t ≡ record s { pending = [] }
-still_shown s t still settles = subst (λ (b : Bool). Settles b s t) still settles
+use Rattle.h5w_writer_laws.proofs.LeavingLemmas.{piece_leaves}
+use Rattle.h5w_writer_laws.proofs.PieceLemmas.{after_pending, itself, none_some, onward}
 
 -- ---- Between two batches
 
@@ -256,7 +231,7 @@ module _ (bs : List (List ℤ)) (values : List ℤ) (s0 s1 s2 s3 : Session) (m0 
       let rows : s0.dataset.shape.rows ≡ length (values_of bs) = ap (λ (d : Described). d.shape.rows) h.dataset in
       let all : rows_of (with_values s0 values) ≡ length (values_of bs ++ values) = omega (arith, rows, new_rows bs values s0 s1 m0 h adds, h.waits, length-append (values_of bs) values) in
       let named : IsNamed s1.dataset = subst (λ (x : Session). IsNamed x.dataset) (sym adds.session) (shown_laws.named s0 h.log h.stands (is_new h.log h.is)) in
-      (all_shown s2 s3 after).dataset ∙ takes_named s1 s2 takes named ∙ ap (λ (x : Session). with_rows (rows_of x) x.dataset) adds.session
+      (piece_leaves s2 s3 [] after).dataset ∙ takes_named s1 s2 takes named ∙ ap (λ (x : Session). with_rows (rows_of x) x.dataset) adds.session
       ∙ ap (λ (d : Described). with_rows (rows_of (with_values s0 values)) d) h.dataset ∙ ap of_rows all
 
   loads_are : spent (cutting_of s3) (record (h.log) { events = events }) ≤ suc (length bs) * 700000
@@ -271,7 +246,7 @@ module _ (bs : List (List ℤ)) (values : List ℤ) (s0 s1 s2 s3 : Session) (m0 
 
   pub batch_after : IsAfter (values ∷ bs) s3 m3
   batch_after =
-      let facts = all_shown s2 s3 after in
+      let facts = piece_leaves s2 s3 [] after in
       let adds = app.adds in
       record {
         log = record (h.log) { events = events };
@@ -287,7 +262,7 @@ module _ (bs : List (List ℤ)) (values : List ℤ) (s0 s1 s2 s3 : Session) (m0 
         limit = facts.limit ∙ takes.limit ∙ adds.limit ∙ h.limit;
         waits = facts.waits ∙ takes.waits;
         pending = facts.pending;
-        no_flush = facts.no_flush;
+        no_flush = facts.idle refl;
         going = facts.stopped ∙ takes.stopped ∙ ap (λ (x : Session). x.stopped) adds.session ∙ h.going;
         begun = omega (arith, h.begun, ap length hist_is, length-append (hist h.log.events ++ app.early) s2.pending, length-append (hist h.log.events) app.early);
         loads = loads_are;
@@ -299,7 +274,7 @@ pub created_after : (s t : Session) (m n o : MemView) → IsCreated new_file (2 
     → ((log : Log) → Stands s log → Stands t (record log { events = showing s.pending log.events })) → IsAfter [] t o
 created_after s t m n o made stood empty same after shown stands =
     let is = made.session in
-    let facts = all_shown s t after in
+    let facts = piece_leaves s t [] after in
     let pending : s.pending ≡ created_writes new_file = ap (λ (x : Session). x.pending) is in
     let es : List Happening = showing (created_writes new_file) [] in
     let history : o.history ≡ hist es =
@@ -318,7 +293,7 @@ created_after s t m n o made stood empty same after shown stands =
       limit = facts.limit ∙ ap (λ (x : Session). x.places.limit) is;
       waits = facts.waits ∙ ap (λ (x : Session). x.waits) is;
       pending = facts.pending;
-      no_flush = facts.no_flush;
+      no_flush = facts.idle refl;
       going = facts.stopped ∙ ap (λ (x : Session). x.stopped) is;
       begun = omega arith;
       loads = omega arith;
@@ -408,7 +383,7 @@ third_bit flags = omega arith
 pub closed_after : (bs : List (List ℤ)) (s t u : Session) (m n o : MemView) → (h : IsAfter bs s m) → Same (steady m) (steady n) → t ≡ closed_of s → ((log : Log) → Stands s log → Stands t log) → AfterPiece t [] u
     → ShowsAll t.pending n o → ((log : Log) → Stands t log → Stands u (record log { events = showing t.pending log.events })) → IsClosed bs u o
 closed_after bs s t u m n o h same is stands1 after shown stands2 =
-    let facts = all_shown t u after in
+    let facts = piece_leaves t u [] after in
     let w : Write = record { at = 0; piece = super_bytes (closed_root s) } in
     let pending : t.pending ≡ w ∷ [] = ap (λ (x : Session). x.pending) is in
     let es : List Happening = shows w ∷ h.log.events in
@@ -426,7 +401,7 @@ closed_after bs s t u m n o h same is stands1 after shown stands2 =
       name = facts.name ∙ ap (λ (x : Session). x.name) is ∙ h.name;
       stopped = facts.stopped ∙ ap (λ (x : Session). x.stopped) is;
       committed =
-          ap (λ (x : Session). x.committed) (still_shown t u (ap (λ (x : Session). x.flushing) is ∙ h.no_flush) after) ∙ ap (λ (x : Session). x.committed) is ∙ all_committed bs s m h;
+          ap (λ (x : Session). x.committed) (facts.still (ap (λ (x : Session). x.flushing) is ∙ h.no_flush)) ∙ ap (λ (x : Session). x.committed) is ∙ all_committed bs s m h;
       begun = omega (arith, h.begun, length-append (hist h.log.events) (w ∷ []));
       limit = facts.limit ∙ ap (λ (x : Session). x.places.limit) is ∙ h.limit;
     }

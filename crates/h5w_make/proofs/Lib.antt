@@ -1,6 +1,6 @@
-pub mod GeneratorLemmas
-pub mod TakenLemmas
-pub mod EventLemmas
-pub mod BatchLemmas
-pub mod ReadingLemmas
-pub mod MadeLemmas
+mod GeneratorLemmas
+mod TakenLemmas
+mod EventLemmas
+mod BatchLemmas
+mod ReadingLemmas
+mod MadeLemmas

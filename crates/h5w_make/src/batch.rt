@@ -5,7 +5,7 @@ ghost use Rattle.h5w_model.specs.Logs.{Log, and_now, hist, plans};
 ghost use Rattle.h5w_options.specs.Options.{AreOptions};
 ghost use Rattle.h5w_image.specs.Memory.{fresh};
 ghost use Rattle.h5w_image.specs.View.{Same};
-ghost use Rattle.h5w_form.specs.NewFiles.{new_file as file_of};
+ghost use Rattle.h5w_creation.specs.NewFiles.{new_file as file_of};
 ghost use Rattle.h5w_writer.specs.Refusals.{append_refusal, flush_refusal};
 ghost use Rattle.h5w_writer.specs.Room.{HasRoomFor};
 ghost use Rattle.h5w_writer.specs.Sessions.{AfterPiece, AreRows, Session, TakesRows};

@@ -11,7 +11,7 @@ use Rattle.h5w_input.specs.Lines.{lines_of, whole_lines_of}
 use Rattle.h5w_batches.specs.Inputs.{input_limit}
 use Rattle.h5w_batches.proofs.InputLemmas.{rose_before}
 use Rattle.h5w_files.proofs.SinkLemmas.{gave_both, gave_nothing, gave_then_some}
-use Rattle.h5w_several_scripts.specs.Scripts.{FileLine, FileState}
+use Rattle.h5w_several_script_laws.specs.Scripts.{FileLine, FileState}
 use Rattle.h5w_playing.specs.Lines.{Spelling, file_line_of}
 use Rattle.h5w_playing.specs.Endings.{Leaves, Runs}
 use Rattle.h5w_playing.specs.Plays.{Begun, Completes, Finished, HasFirst, HasScript, Plays, Refused, TooLong}

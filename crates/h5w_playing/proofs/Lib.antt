@@ -1,7 +1,7 @@
 pub mod LineLemmas
 pub mod PlayLemmas
 pub mod EndLemmas
-pub mod LookLemmas
+mod LookLemmas
 pub mod ShowLemmas
 pub mod RangeLemmas
 pub mod OneLemmas

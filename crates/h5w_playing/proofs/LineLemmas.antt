@@ -10,7 +10,7 @@ use Rattle.h5w_input.specs.Scripts.{script_line_of}
 use Rattle.h5w_input.specs.declared.line.TextLine.{TextLine}
 use Rattle.h5w_input.specs.declared.line.TextLine.TheVariants.{Long}
 use Rattle.h5w_several_batches.specs.SetLines.{use_of}
-use Rattle.h5w_several_scripts.specs.Scripts.{asks, takes}
+use Rattle.h5w_several_script_laws.specs.Scripts.{asks, takes}
 use Rattle.h5w_playing.specs.Answers.{play_line_of}
 use Rattle.h5w_playing.specs.Lines.{Spelling, file_line_of, is_takeover, line_unless}
 

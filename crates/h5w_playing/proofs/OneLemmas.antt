@@ -9,9 +9,9 @@ use Rattle.h5w_input.specs.LinesAhead.{IsLine}
 use Rattle.h5w_input.specs.declared.line.TextLine.{TextLine}
 use Rattle.h5w_input.specs.declared.line.TextLine.TheVariants.{Whole}
 use Rattle.h5w_core.specs.Worlds.{WorldView, rules_of}
-use Rattle.h5w_several_scripts.specs.Alone.{alone, of_one}
-use Rattle.h5w_several_scripts.specs.Scripts.{FileLine, FileReply, FileState, AllowedAll, asks, next_all, uses, using}
-use Rattle.h5w_several_scripts.proofs.AloneLemmas.{one_dataset_laws}
+use Rattle.h5w_several_script_laws.specs.Alone.{alone, of_one}
+use Rattle.h5w_several_script_laws.specs.Scripts.{FileLine, FileReply, FileState, AllowedAll, asks, next_all, uses, using}
+use Rattle.h5w_several_script_laws.proofs.AloneLemmas.{one_dataset_laws}
 use Rattle.h5w_playing.specs.Answers.{Answers}
 use Rattle.h5w_playing.specs.Lines.{file_line_of}
 use Rattle.h5w_playing.specs.Machines.{GivesReply}

@@ -14,7 +14,7 @@ use Rattle.h5w_input.specs.declared.line.TextLine as text_lines
 use Rattle.h5w_input.specs.declared.line.LineError.{LineError}
 use Rattle.h5w_input.specs.declared.line.LineError.TheVariants.{Failed, Input, OutOfMemory}
 use Rattle.h5w_input.proofs.LineLemmas.{lines_more, lines_done, passed_nothing, passed_twice, whole_cut, whole_lacks}
-use Rattle.h5w_several_scripts.specs.Scripts.{FileLine, FileReply, FileState, AllowedAll, LawfulAll, next_all}
+use Rattle.h5w_several_script_laws.specs.Scripts.{FileLine, FileReply, FileState, AllowedAll, LawfulAll, next_all}
 use Rattle.h5w_playing.specs.Lines.{Spelling, file_line_of}
 use Rattle.h5w_playing.specs.Replies.{file_reply_text}
 use Rattle.h5w_playing.specs.Endings.{Answered, EndsAt, Runs, ending_of}

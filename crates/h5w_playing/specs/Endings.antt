@@ -7,7 +7,7 @@ use Rattle.h5w_text.specs.declared.error.ErrorLine.TheVariants as errors
 use Rattle.h5w_input.specs.declared.line.LineError.{LineError}
 use Rattle.h5w_input.specs.declared.line.LineError.TheVariants as line_errors
 use Rattle.h5w_batches.specs.Inputs.{input_limit}
-use Rattle.h5w_several_scripts.specs.Scripts.{FileLine, FileReply, FileState, AllowedAll, next_all}
+use Rattle.h5w_several_script_laws.specs.Scripts.{FileLine, FileReply, FileState, AllowedAll, next_all}
 use Rattle.h5w_playing.specs.Lines.{Spelling, file_line_of}
 use Rattle.h5w_playing.specs.Replies.{file_reply_text}
 use Rattle.h5w_playing.specs.Plays.{Begun, Broken, Finished, Writes}

@@ -1,8 +1,8 @@
 pub use Rattle.h5w_options.specs.Options
 pub use Rattle.h5w_text.specs.Streams
 pub use Rattle.h5w_several_batches.specs.SetLines
-pub use Rattle.h5w_several_scripts.specs.Scripts
-pub use Rattle.h5w_several_scripts.specs.Alone
+pub use Rattle.h5w_several_script_laws.specs.Scripts
+pub use Rattle.h5w_several_script_laws.specs.Alone
 pub use Rattle.h5w_core.specs.Worlds
 pub mod Lines
 pub mod Replies

@@ -5,7 +5,7 @@ use Rattle.h5w_input.specs.Words.{line_of_script}
 use Rattle.h5w_input.specs.declared.script.TextError.{TextError}
 use Rattle.h5w_input.specs.declared.script.TextError.TheVariants.{Grammar}
 use Rattle.h5w_several_batches.specs.SetLines.{use_of}
-use Rattle.h5w_several_scripts.specs.Scripts.{FileLine, uses, takes, asks}
+use Rattle.h5w_several_script_laws.specs.Scripts.{FileLine, uses, takes, asks}
 use Rattle.h5w_playing.specs.declared.line.PlayLine.{PlayLine}
 use Rattle.h5w_playing.specs.declared.line.PlayLine.TheVariants.{Use, Takeover, Asks}
 

@@ -1,6 +1,6 @@
 -- What an answer to a line of a script is between two states of a machine.
 use Rattle.std.specs.Prelude.{◌≡◌, ℕ, List, ◌++◌, Some}
-use Rattle.h5w_several_scripts.specs.Scripts.{FileLine, FileReply, FileState, AllowedAll, next_all}
+use Rattle.h5w_several_script_laws.specs.Scripts.{FileLine, FileReply, FileState, AllowedAll, next_all}
 use Rattle.h5w_playing.specs.Lines.{Spelling, file_line_of}
 use Rattle.h5w_playing.specs.Replies.{file_reply_text}
 

@@ -4,8 +4,8 @@ use Rattle.h5w_model.specs.Lawful.{Line, ScriptState}
 use Rattle.h5w_model.specs.declared.reply.Reply.{Reply}
 use Rattle.h5w_text.specs.Replies.{reply_text}
 use Rattle.h5w_core.specs.Worlds.{WorldView, HaveOneLog, rules_of}
-use Rattle.h5w_several_scripts.specs.Alone.{alone}
-use Rattle.h5w_several_scripts.specs.Scripts.{FileState}
+use Rattle.h5w_several_script_laws.specs.Alone.{alone}
+use Rattle.h5w_several_script_laws.specs.Scripts.{FileState}
 use Rattle.h5w_playing.specs.Answers.{Answers}
 use Rattle.h5w_playing.specs.Lines.{Spelling}
 

@@ -7,7 +7,7 @@ use Rattle.h5w_input.specs.Lines.{lines_of, whole_lines_of}
 use Rattle.h5w_text.specs.Errors.{error_text}
 use Rattle.h5w_text.specs.declared.error.ErrorLine.TheVariants as errors
 use Rattle.h5w_batches.specs.Inputs.{input_limit}
-use Rattle.h5w_several_scripts.specs.Scripts.{FileLine, FileReply, FileState, LawfulAll}
+use Rattle.h5w_several_script_laws.specs.Scripts.{FileLine, FileReply, FileState, LawfulAll}
 use Rattle.h5w_playing.specs.Lines.{Spelling, file_line_of}
 use Rattle.h5w_playing.specs.Replies.{file_reply_text}
 use Rattle.h5w_text.specs.declared.status.Status.{Status}

@@ -2,7 +2,7 @@
 use Rattle.std.specs.Prelude.{ℕ, List, [], ◌∷◌, codes}
 use Rattle.h5w_text.specs.Replies.{reply_text}
 use Rattle.h5w_text.specs.Table.{numbers_text}
-use Rattle.h5w_several_scripts.specs.Scripts.{FileReply, using, flushing_each, goes_on, took_over, says}
+use Rattle.h5w_several_script_laws.specs.Scripts.{FileReply, using, flushing_each, goes_on, took_over, says}
 
 -- the line of a reply
 abbrev pub file_reply_text : FileReply → List ℕ

@@ -5,7 +5,7 @@ use Rattle.h5w_options.specs.declared.options.Options.{Options}
 use Rattle.h5w_text.specs.Streams.{SourceView, SinkView}
 use Rattle.h5w_text.specs.declared.status.Status.{Status}
 use Rattle.h5w_core.specs.Worlds.{rules_for}
-use Rattle.h5w_several_scripts.specs.Scripts.{FileState, first_in}
+use Rattle.h5w_several_script_laws.specs.Scripts.{FileState, first_in}
 use Rattle.h5w_playing.specs.Lines.{Spelling}
 use Rattle.h5w_playing.specs.Plays.{Completes, Plays}
 

@@ -1,7 +1,7 @@
 //! What answers the lines of a script.
 ghost use Rattle.std.specs.Prelude.{◌≡◌, ℕ, List, None, Err, OnOk};
 ghost use Rattle.h5w_input.specs.LinesAhead.{IsLine};
-ghost use Rattle.h5w_several_scripts.specs.Scripts.{FileState};
+ghost use Rattle.h5w_several_script_laws.specs.Scripts.{FileState};
 ghost use Rattle.h5w_playing.specs.Lines.{Spelling, file_line_of};
 ghost use Rattle.h5w_playing.specs.Machines.{GivesReply};
 

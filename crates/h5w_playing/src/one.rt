@@ -3,7 +3,7 @@ ghost use Rattle.std.specs.Prelude.{◌≡◌, ◌+◌, ◌++◌, ◌≤◌, ◌
 ghost use Rattle.h5w_model.specs.Lawful.{looks, shows_up_to};
 ghost use Rattle.h5w_input.specs.Words.{line_of_script};
 ghost use Rattle.h5w_core.specs.Worlds.{rules_of};
-ghost use Rattle.h5w_several_scripts.specs.Scripts.{using};
+ghost use Rattle.h5w_several_script_laws.specs.Scripts.{using};
 ghost use Rattle.h5w_playing.specs.Answers.{Answers, InRange};
 ghost use Rattle.h5w_playing.specs.Ones.{Says};
 ghost use Rattle.h5w_playing.specs.Replies.{file_reply_text};

@@ -3,7 +3,7 @@ ghost use Rattle.std.specs.Prelude.{◌≡◌, ◌+◌, ℕ, List, length, OnOk,
 ghost use Rattle.h5w_input.specs.LinesAhead.{IsLine, lines_ahead};
 ghost use Rattle.h5w_batches.specs.Inputs.{SameSource, input_limit, outside};
 ghost use Rattle.h5w_text.specs.Streams.{SourceView};
-ghost use Rattle.h5w_several_scripts.specs.Scripts.{FileState};
+ghost use Rattle.h5w_several_script_laws.specs.Scripts.{FileState};
 ghost use Rattle.h5w_playing.specs.Endings.{Answered, EndsAt, Runs};
 ghost use Rattle.h5w_playing.specs.Lines.{Spelling};
 ghost use Rattle.h5w_playing.specs.Plays.{Plays};

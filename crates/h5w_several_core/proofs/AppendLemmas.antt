@@ -23,7 +23,7 @@ use Rattle.h5w_several_writer.proofs.EndLemmas.{get_set, part_of, same_part}
 use Rattle.h5w_several_writer_laws.specs.Sessions.{AppendsTo, AreSessions, Sessions, all_pending}
 use Rattle.h5w_several_writer_laws.specs.Standing.{StandsAll, and_then}
 use Rattle.h5w_several_writer_laws.proofs.FlushAllLemmas.{back_nil, front_nil}
-use Rattle.h5w_several_scripts.specs.Scripts.{AllowedAll, FileState, asks, next_all, says}
+use Rattle.h5w_several_script_laws.specs.Scripts.{AllowedAll, FileState, asks, next_all, says}
 use Rattle.h5w_several_world_laws.specs.Worlds.{HaveOneFileLog}
 use Rattle.h5w_several_world_laws.proofs.AppendLemmas.{append_steps}
 use Rattle.h5w_several_world_laws.proofs.RefusalLemmas.{all_refused_steps}
@@ -185,9 +185,6 @@ module _ (S T : Sessions) (m n : MemView) (attempts : ℕ) (ps : List Place) (d 
         steps_hold S T m n attempts ps ps (events.Append d vs) (says (replies.Appended rows 0)) h inside append_done room (ap (λ (U : Sessions). U.places.limit) x.session)
         (front_appended S T m.bytes n.bytes (some_is n.bytes m.bytes same.bytes) h.front d vs x) h.count
 
-    pub append_stops : T.stopped ≡ S.stopped
-    append_stops = ap (λ (U : Sessions). U.stopped) x.session
-
     -- no more bytes wait than the budget has
     pub append_within : IsPast old d vs → ⊥
     append_within p =
@@ -333,10 +330,6 @@ module _ (S : Sessions) (m : MemView) (attempts : ℕ) (ps : List Place) (w : Se
     pub all_hold : (r : Result ℕ AppendError) → AppendTells S T d vs r → HoldsAll S m attempts ps → OnOk r (HasRoomForAll T (steady n)) → HoldsAll T n attempts ps
     all_hold (Ok rows) tells h room = append_hold S T m n attempts ps d vs rows_are_in same rows tells h room
     all_hold (Err e) tells h room = same_hold S T m n attempts ps h same tells.kept
-
-    pub all_stops : (r : Result ℕ AppendError) → AppendTells S T d vs r → T.stopped ≡ S.stopped
-    all_stops (Ok rows) tells = append_stops S T m n attempts ps d vs rows_are_in same rows tells
-    all_stops (Err e) tells = ap (λ (U : Sessions). U.stopped) tells.kept
 
     pub all_kept : T ≡ S → then ≡ w
     all_kept kept = unchanged S T m n attempts ps same kept ∙ view

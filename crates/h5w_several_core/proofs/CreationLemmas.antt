@@ -19,7 +19,7 @@ use Rattle.h5w_index.specs.Views.{IndexView}
 use Rattle.h5w_creation.specs.Forms.{IsForm, created_by}
 use Rattle.h5w_creation.specs.declared.form.Form.{Form}
 use Rattle.h5w_creation_laws.specs.CreatedFiles.{CreatedFile}
-use Rattle.h5w_form.specs.NewFiles.{new_file}
+use Rattle.h5w_creation.specs.NewFiles.{new_file}
 use Rattle.h5w_options.specs.declared.options.Options.{Options}
 use Rattle.h5w_script_laws.specs.Polling.{MayPoll, Polling, now}
 use Rattle.h5w_writer.specs.Creations.{places_to}
@@ -40,16 +40,16 @@ use Rattle.h5w_several_writer_laws.specs.Sessions.{Sessions, all_pending, counts
 use Rattle.h5w_several_writer_laws.specs.Standing.{StandsAll}
 use Rattle.h5w_several_writer_laws.proofs.GiveLemmas.{standing_all}
 use Rattle.h5w_several_writer_laws.proofs.SeenLemmas.{length_pieces}
-use Rattle.h5w_several_scripts.specs.Scripts.{FileState, SetState, due, first_in}
-use Rattle.h5w_several_scripts.specs.Polled.{FilePolled, IsPolled, Places, readers_of}
-use Rattle.h5w_several_scripts.proofs.PolledLemmas.{not_placed}
+use Rattle.h5w_several_script_laws.specs.Scripts.{FileState, SetState, due, first_in}
+use Rattle.h5w_several_script_laws.specs.Polled.{FilePolled, IsPolled, Places, readers_of}
+use Rattle.h5w_several_script_laws.proofs.PolledLemmas.{not_placed}
 use Rattle.h5w_several_world_laws.specs.Beginnings.{IsNewFor}
 use Rattle.h5w_several_world_laws.specs.Worlds.{AreStatesOf, HaveOneFileLog, polling_in, rules_in}
 use Rattle.h5w_several_world_laws.proofs.StepLemmas.{begun_there, part_there, state_at, states_length}
 use Rattle.h5w_core.specs.Worlds.{rules_for}
 use Rattle.h5w_several_core.specs.Creation.{AllSome, CreatesAll, new_files}
 use Rattle.h5w_several_core.specs.Places.{nobody, place_at, seated, vacant}
-use Rattle.h5w_several_core.specs.Worlds.{HasFront, HaveFileLog, HoldsAll, IsKeptOf, names_of, rules_of}
+use Rattle.h5w_several_core.specs.Worlds.{HasFront, HasOneBudget, HaveFileLog, HoldsAll, names_of, rules_of}
 use Rattle.h5w_several_core.specs.declared.places.Place.{Place}
 use Rattle.h5w_several_core.proofs.MachineLemmas.{world_of}
 use Rattle.h5w_several_core.proofs.RuleLemmas.{polls_in, rules_by}
@@ -330,12 +330,12 @@ created_holds names o attempts S m places tries high x none =
       fits = created_fits names o attempts S m places x none;
     }
 
--- the limit and the budget are those of the options, and the session goes on
-pub created_keeps : (names : List (List ℕ)) (o : Options) (S : Sessions) (m : MemView) → 1024 ≤ o.limit → CreatesAll names o S m → IsKeptOf o.limit o.budget false S
+-- the limit and the budget are those of the options
+pub created_keeps : (names : List (List ℕ)) (o : Options) (S : Sessions) (m : MemView) → 1024 ≤ o.limit → CreatesAll names o S m → HasOneBudget S
 created_keeps names o S m low x =
     let fs = new_files names o in
-    subst (λ (U : Sessions). IsKeptOf o.limit o.budget false U) (sym x.is.is)
-    (record { low = low; limited = refl; budgets = made_budgets (super_of 5 fs) (places_to (end_of fs) o.limit) o.budget (first_place fs) fs x.is.indexes; stops = refl })
+    subst HasOneBudget (sym x.is.is)
+    (record { low = low; budget = o.budget; budgets = made_budgets (super_of 5 fs) (places_to (end_of fs) o.limit) o.budget (first_place fs) fs x.is.indexes })
 
 -- ---- Its rules and names
 

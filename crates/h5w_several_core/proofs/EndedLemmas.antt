@@ -12,10 +12,10 @@ use Rattle.h5w_script_laws.proofs.PutLemmas.{put_other}
 use Rattle.h5w_writer.specs.Sessions.{Session}
 use Rattle.h5w_writer_laws.proofs.PieceLemmas.{some_is}
 use Rattle.h5w_several_writer_laws.specs.Sessions.{Sessions}
-use Rattle.h5w_several_scripts.specs.Scripts.{FileState, SetState}
-use Rattle.h5w_several_scripts.specs.Polled.{FilePolled, IsPolled, Places, readers_of}
-use Rattle.h5w_several_scripts.proofs.PolledLemmas.{placed_here, set_there}
-use Rattle.h5w_several_scripts.proofs.SetLemmas.{got_is}
+use Rattle.h5w_several_script_laws.specs.Scripts.{FileState, SetState}
+use Rattle.h5w_several_script_laws.specs.Polled.{FilePolled, IsPolled, Places, readers_of}
+use Rattle.h5w_several_script_laws.proofs.PolledLemmas.{placed_here, set_there}
+use Rattle.h5w_several_script_laws.proofs.SetLemmas.{got_is}
 use Rattle.h5w_several_world_laws.specs.Worlds.{AreStatesOf, HaveOneFileLog, IsStateOfPart}
 use Rattle.h5w_core.specs.Readers.{ended}
 use Rattle.h5w_core.proofs.ReaderLemmas.{may_end}

@@ -21,7 +21,7 @@ use Rattle.h5w_several_writer.specs.Refusals.{HasRoomForAll, IsFullAmong, NoPlac
 use Rattle.h5w_several_writer.proofs.PartLemmas.{pending_same}
 use Rattle.h5w_several_writer_laws.specs.Sessions.{FlushesAll, SameButHeld, Sessions, all_pending, counts_of}
 use Rattle.h5w_several_writer_laws.specs.Standing.{StandsAll, and_then}
-use Rattle.h5w_several_scripts.specs.Scripts.{FileState, asks, flushing_each, says}
+use Rattle.h5w_several_script_laws.specs.Scripts.{FileState, asks, flushing_each, says}
 use Rattle.h5w_several_world_laws.specs.Worlds.{HaveOneFileLog}
 use Rattle.h5w_several_world_laws.proofs.FlushLemmas.{flush_limit, flush_steps}
 use Rattle.h5w_several_world_laws.proofs.FullLemmas.{full_step}
@@ -170,9 +170,6 @@ module _ (S T : Sessions) (m n : MemView) (attempts : ℕ) (ps : List Place) (sa
         steps_hold S T m n attempts ps ps events.Flush (flushing_each counts) h tt flush_done room limit_is
         (front_flushed S T m.bytes n.bytes (some_is n.bytes m.bytes same.bytes) h.front h.fits.have.log h.fits.have.stands going.0 going.1 f) h.count
 
-    pub flush_stops : T.stopped ≡ S.stopped
-    flush_stops = ap (λ (U : Sessions). U.stopped) f.session
-
   -- ---- The session refuses
 
   module _ (x : SameButHeld S T) (left : (log : FileLog) → StandsAll S log → StandsAll T log) where
@@ -290,10 +287,6 @@ module _ (S : Sessions) (m : MemView) (attempts : ℕ) (ps : List Place) (w : Se
   pub all_hold : (r : Result (List ℕ) FlushError) → FlushTells S T r → HoldsAll S m attempts ps → OnOk r (HasRoomForAll T (steady n)) → HoldsAll T n attempts ps
   all_hold (Ok counts) tells h room = flush_hold S T m n attempts ps same counts tells h room
   all_hold (Err e) tells h room = held_hold S T m n attempts ps same tells.kept tells.left h
-
-  pub all_stops : (r : Result (List ℕ) FlushError) → FlushTells S T r → T.stopped ≡ S.stopped
-  all_stops (Ok counts) tells = flush_stops S T m n attempts ps same counts tells
-  all_stops (Err e) tells = ap (λ (U : Sessions). U.stopped) tells.kept.session
 
   pub all_held : SameButHeld S T → ((log : FileLog) → StandsAll S log → StandsAll T log) → HoldsMoreIn w then
   all_held kept left = subst (λ (x : SeveralView). HoldsMoreIn x then) view (holds_more S T m n attempts ps same kept left)

@@ -1,5 +1,6 @@
--- What the machine keeps of its session beside it, whatever a call makes of that.
-use Rattle.std.proofs.Common.{◌≡◌, ℕ, ◌≤◌, Bool, List, [], ◌∷◌, length, ap, ◌∙◌, arith}
+-- The limit and the budgets of the session stay, whatever a call makes of it.
+use Rattle.std.proofs.Common.{◌≡◌, ℕ, ◌≤◌, List, [], ◌∷◌, length, Some, refl, sym, ap, ◌∙◌, subst, arith}
+use Rattle.std.specs.Prelude.{slice_get}
 use Rattle.std.specs.List.{AllByRecursion}
 use Rattle.h5w_image.specs.Memory.{MemView}
 use Rattle.h5w_script_laws.specs.Polling.{Polling}
@@ -7,7 +8,7 @@ use Rattle.h5w_writer.specs.Sessions.{Session}
 use Rattle.h5w_several_writer_laws.specs.Sessions.{Sessions}
 use Rattle.h5w_several_world_laws.specs.Worlds.{polling_in}
 use Rattle.h5w_several_world_laws.proofs.StepLemmas.{states_length}
-use Rattle.h5w_several_core.specs.Worlds.{HoldsAll, IsKeptOf, pollings_of}
+use Rattle.h5w_several_core.specs.Worlds.{HasOneBudget, HoldsAll, pollings_of}
 use Rattle.h5w_several_core.specs.declared.places.Place.{Place}
 use Rattle.h5w_several_core.proofs.MachineLemmas.{world_of}
 use Rattle.h5w_several_core.proofs.RuleLemmas.{polls_in}
@@ -39,11 +40,17 @@ some_parts S m attempts ps h =
     omega (arith, used, sets)
 
 -- where readers poll for what they did
-pub kept_by : (S T : Sessions) (m n : MemView) (attempts limit budget : ℕ) (old new : Bool) (ps qs : List Place) → HoldsAll S m attempts ps → pollings_of (world_of T n attempts qs) ≡ pollings_of (world_of S m attempts ps)
-    → T.stopped ≡ new → IsKeptOf limit budget old S → IsKeptOf limit budget new T
-kept_by S T m n attempts limit budget old new ps qs h polls stops k = record {
-  low = k.low;
-  limited = limits_stay T.places.limit S.places.limit attempts S.parts T.parts (some_parts S m attempts ps h) polls ∙ k.limited;
-  budgets = budgets_stay T.places.limit S.places.limit attempts budget S.parts T.parts polls k.budgets;
-  stops = stops;
+pub kept_by : (S T : Sessions) (m n : MemView) (attempts : ℕ) (ps qs : List Place) → HoldsAll S m attempts ps → pollings_of (world_of T n attempts qs) ≡ pollings_of (world_of S m attempts ps) → HasOneBudget S → HasOneBudget T
+kept_by S T m n attempts ps qs h polls k = record {
+  low = subst (λ (l : ℕ). 1024 ≤ l) (sym (limits_stay T.places.limit S.places.limit attempts S.parts T.parts (some_parts S m attempts ps h) polls)) k.low;
+  budget = k.budget;
+  budgets = budgets_stay T.places.limit S.places.limit attempts k.budget S.parts T.parts polls k.budgets;
 }
+
+-- the budget of the first dataset is that of each
+pub told_budgets : (S : Sessions) (told : ℕ) → HasOneBudget S → 1 ≤ length S.parts → ((s : Session) → slice_get S.parts 0 ≡ Some s → told ≡ s.budget) → AllByRecursion (λ (s : Session). s.budget ≡ told) S.parts
+told_budgets S told k some is = go S.parts some k.budgets is
+  where
+    go : (ss : List Session) → 1 ≤ length ss → AllByRecursion (λ (s : Session). s.budget ≡ k.budget) ss → ((s : Session) → slice_get ss 0 ≡ Some s → told ≡ s.budget) → AllByRecursion (λ (s : Session). s.budget ≡ told) ss
+    go [] some all is = absurd (omega (arith, some))
+    go (s ∷ ss) some all is = subst (λ (b : ℕ). AllByRecursion (λ (u : Session). u.budget ≡ b) (s ∷ ss)) (sym (is s refl ∙ all.0)) all

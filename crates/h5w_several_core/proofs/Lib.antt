@@ -1,16 +1,16 @@
-pub mod RuleLemmas
-pub mod FrontLemmas
-pub mod MachineLemmas
-pub mod KeptLemmas
-pub mod AppendLemmas
-pub mod FlushLemmas
-pub mod ShowLemmas
-pub mod SeatLemmas
-pub mod EndedLemmas
-pub mod LineLemmas
-pub mod ReaderLemmas
-pub mod CreationLemmas
-pub mod TakeLemmas
-pub mod OneLemmas
-pub mod StepLemmas
+mod RuleLemmas
+mod FrontLemmas
+mod MachineLemmas
+mod KeptLemmas
+mod AppendLemmas
+mod FlushLemmas
+mod ShowLemmas
+mod SeatLemmas
+mod EndedLemmas
+mod LineLemmas
+mod ReaderLemmas
+mod CreationLemmas
+mod TakeLemmas
+mod OneLemmas
+mod StepLemmas
 pub mod RunLemmas

@@ -19,9 +19,9 @@ use Rattle.h5w_writer.specs.Sessions.{Session}
 use Rattle.h5w_several_laws.proofs.SeenLemmas.{seen_laws}
 use Rattle.h5w_several_writer_laws.specs.Sessions.{Sessions}
 use Rattle.h5w_several_writer_laws.proofs.GiveLemmas.{standing_all}
-use Rattle.h5w_several_scripts.specs.Scripts.{FileState, asks, says}
-use Rattle.h5w_several_scripts.specs.Polled.{Places, and_place, readers_of}
-use Rattle.h5w_several_scripts.proofs.PolledLemmas.{placed_here, set_there}
+use Rattle.h5w_several_script_laws.specs.Scripts.{FileState, asks, says}
+use Rattle.h5w_several_script_laws.specs.Polled.{Places, and_place, readers_of}
+use Rattle.h5w_several_script_laws.proofs.PolledLemmas.{placed_here, set_there}
 use Rattle.h5w_several_world_laws.specs.Worlds.{HaveOneFileLog, polling_in}
 use Rattle.h5w_several_world_laws.specs.ReaderSteps.{ReaderSteps}
 use Rattle.h5w_several_world_laws.proofs.ReaderLemmas.{all_reader_steps}

@@ -14,8 +14,8 @@ use Rattle.h5w_several_writer.specs.Refusals.{HasRoomForAll}
 use Rattle.h5w_several_writer_laws.specs.Sessions.{Sessions, all_pending}
 use Rattle.h5w_several_writer_laws.specs.Standing.{StandsAll, and_then}
 use Rattle.h5w_several_writer_laws.proofs.SeenLemmas.{length_pieces}
-use Rattle.h5w_several_scripts.specs.Scripts.{AllowedAll, FileLine, FileReply, FileState, next_all}
-use Rattle.h5w_several_scripts.specs.Polled.{Places}
+use Rattle.h5w_several_script_laws.specs.Scripts.{AllowedAll, FileLine, FileReply, FileState, next_all}
+use Rattle.h5w_several_script_laws.specs.Polled.{Places}
 use Rattle.h5w_several_world_laws.specs.Worlds.{HaveOneFileLog}
 use Rattle.h5w_several_world_laws.proofs.StepLemmas.{states_length}
 use Rattle.h5w_several_core.specs.Places.{place_at}

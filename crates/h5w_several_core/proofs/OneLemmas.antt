@@ -37,18 +37,18 @@ use Rattle.h5w_several_open.specs.Sessions.{BeginsWith}
 use Rattle.h5w_several_open.specs.Taken.{HasTakenAll, IsTakenAll, IsTakenAnswer}
 use Rattle.h5w_takeover_laws.specs.One.{CarriesFile, ToldOfCreated}
 use Rattle.h5w_takeover_laws.proofs.OneLemmas.{answers_one, carries_one, created_told}
-use Rattle.h5w_several_scripts.specs.Alone.{alone}
-use Rattle.h5w_several_scripts.specs.Polled.{FilePolled, IsPolled, Places, readers_of}
-use Rattle.h5w_several_scripts.specs.Scripts.{FileState, SetState, due, settled_in, settled_set}
+use Rattle.h5w_several_script_laws.specs.Alone.{alone}
+use Rattle.h5w_several_script_laws.specs.Polled.{FilePolled, IsPolled, Places, readers_of}
+use Rattle.h5w_several_script_laws.specs.Scripts.{FileState, SetState, due, settled_in, settled_set}
 use Rattle.h5w_several_world_laws.specs.Beginnings.{IsNewFor}
 use Rattle.h5w_several_world_laws.specs.Worlds.{AreStatesOf, HaveOneFileLog, IsFileStateOf, IsStateOfPart, polling_in}
 use Rattle.h5w_several_world_laws.proofs.TakenLemmas.{settled_set_polled}
 use Rattle.h5w_core.specs.Parts.{IsApart}
 use Rattle.h5w_core.specs.Readers.{reader_at}
-use Rattle.h5w_core.specs.Worlds.{HaveOneLog, WorldView, polling_of, rules_of as world_rules}
+use Rattle.h5w_core.specs.Worlds.{HaveOneLog, IsBudget, WorldView, polling_of, rules_of as world_rules}
 use Rattle.h5w_core.specs.declared.parts.WorldParts.{WorldParts}
 use Rattle.h5w_several_core.specs.Places.{only_place, place_at, seat_of}
-use Rattle.h5w_several_core.specs.Worlds.{HaveFileLog, HoldsAll, IsKeptOf, SeveralView, names_of, rules_of}
+use Rattle.h5w_several_core.specs.Worlds.{HasOneBudget, HaveFileLog, HoldsAll, SeveralView, names_of, rules_of}
 use Rattle.h5w_several_core.specs.declared.places.Place.{Place}
 use Rattle.h5w_several_core.proofs.EndedLemmas.{of_place}
 use Rattle.h5w_several_core.proofs.FrontLemmas.{front_moved, front_taken}
@@ -110,7 +110,7 @@ module _ (w : WorldView) (s : ScriptState) (h : HaveOneLog w s) where
   high = begun_log.high
 
   -- it may be taken over by its name
-  pub one_may_take : (limit budget : ℕ) (b : List ℕ) (names : List (List ℕ)) → limit ≡ own.places.limit → b ≡ w.bytes → IsLeftOpen b → (1024 ≤ budget) × (budget ≤ 2 ^ 30) → names ≡ own.name ∷ [] → MayTake b names limit budget
+  pub one_may_take : (limit budget : ℕ) (b : List ℕ) (names : List (List ℕ)) → limit ≡ own.places.limit → b ≡ w.bytes → IsLeftOpen b → IsBudget budget → names ≡ own.name ∷ [] → MayTake b names limit budget
   one_may_take limit budget b names limited same left budgets is =
       subst (λ (ns : List (List ℕ)). MayTake b ns limit budget) (sym is)
       (record {
@@ -315,12 +315,11 @@ module _ (w : WorldView) (s : ScriptState) (h : HaveOneLog w s) where
           fits = one_fits n bytes journal;
         }
 
-    pub one_keeps : IsKeptOf limit budget false T
+    pub one_keeps : HasOneBudget T
     one_keeps = record {
-      low = subst (λ (l : ℕ). 1024 ≤ l) (sym limited) begun_log.low;
-      limited = begun.limited;
+      low = subst (λ (l : ℕ). 1024 ≤ l) (sym limit_is) begun_log.low;
+      budget = budget;
       budgets = subst (AllByRecursion (λ (u : Session). u.budget ≡ budget)) (sym carried.parts) (part_begins.budgeted, tt);
-      stops = begun.going;
     }
 
 -- ---- By the parts of the world
@@ -328,20 +327,34 @@ module _ (w : WorldView) (s : ScriptState) (h : HaveOneLog w s) where
 only_name : (w : WorldView) (p : WorldParts) → IsApart w p → (names : List (List ℕ)) (name : List ℕ) → names ≡ name ∷ [] → name ≡ p.session.name → names ≡ w.session.name ∷ []
 only_name w p apart names name only called = only ∙ ap (λ (n : List ℕ). n ∷ []) (called ∙ ap (λ (x : Session). x.name) apart.session)
 
-pub apart_may_take : (w : WorldView) (p : WorldParts) → IsApart w p → (s : ScriptState) → HaveOneLog w s → IsLeftOpen p.image.bytes → (names : List (List ℕ)) (name : List ℕ) → names ≡ name ∷ [] → name ≡ p.session.name → MayTake p.image.bytes names p.limit p.budget
-apart_may_take w p apart s h left names name only called =
-    one_may_take w s h p.limit p.budget p.image.bytes names apart.limit apart.bytes left apart.allowed (only_name w p apart names name only called)
+-- the limit and the budget that its session tells
+own_limit : (w : WorldView) (p : WorldParts) → IsApart w p → (limit : ℕ) → limit ≡ p.session.places.limit → limit ≡ w.session.places.limit
+own_limit w p apart limit is = is ∙ ap (λ (x : Session). x.places.limit) apart.session
 
-module _ (w : WorldView) (p : WorldParts) (apart : IsApart w p) (T : Sessions) (n : MemView) (same : Same (steady p.image) (steady n)) (names : List (List ℕ)) (name : List ℕ) (only : names ≡ name ∷ []) (called : name ≡ p.session.name) (qs : List Place) (placed : qs ≡ map only_place p.readers.items)
-    (taken : IsTakenAll p.image.bytes (length p.image.bytes) names p.limit p.budget T) (begun : HasTakenAll names p.limit p.budget T) where
+own_budget : (w : WorldView) (p : WorldParts) → IsApart w p → (budget : ℕ) → budget ≡ p.session.budget → budget ≡ w.session.budget
+own_budget w p apart budget is = is ∙ ap (λ (x : Session). x.budget) apart.session
+
+pub apart_may_take : (w : WorldView) (p : WorldParts) → IsApart w p → (limit budget : ℕ) → limit ≡ p.session.places.limit → budget ≡ p.session.budget → (s : ScriptState) → HaveOneLog w s → IsLeftOpen p.image.bytes → (names : List (List ℕ)) (name : List ℕ) → names ≡ name ∷ []
+    → name ≡ p.session.name → MayTake p.image.bytes names limit budget
+apart_may_take w p apart limit budget limit_is budget_is s h left names name only called =
+    one_may_take w s h limit budget p.image.bytes names (own_limit w p apart limit limit_is) apart.bytes left (subst IsBudget (sym (own_budget w p apart budget budget_is)) apart.allowed) (only_name w p apart names name only called)
+
+module _ (w : WorldView) (p : WorldParts) (apart : IsApart w p) (limit budget : ℕ) (limit_is : limit ≡ p.session.places.limit) (budget_is : budget ≡ p.session.budget) (T : Sessions) (n : MemView) (same : Same (steady p.image) (steady n)) (names : List (List ℕ)) (name : List ℕ) (only : names ≡ name ∷ []) (called : name ≡ p.session.name) (qs : List Place) (placed : qs ≡ map only_place p.readers.items)
+    (taken : IsTakenAll p.image.bytes (length p.image.bytes) names limit budget T) (begun : HasTakenAll names limit budget T) where
+  limited : limit ≡ w.session.places.limit
+  limited = own_limit w p apart limit limit_is
+
+  budgeted : budget ≡ w.session.budget
+  budgeted = own_budget w p apart budget budget_is
+
   named : names ≡ w.session.name ∷ []
   named = only_name w p apart names name only called
 
-  taken_here : IsTakenAll w.bytes (length w.bytes) (w.session.name ∷ []) p.limit p.budget T
-  taken_here = subst (λ (b : List ℕ). IsTakenAll b (length b) (w.session.name ∷ []) p.limit p.budget T) apart.bytes (subst (λ (ns : List (List ℕ)). IsTakenAll p.image.bytes (length p.image.bytes) ns p.limit p.budget T) named taken)
+  taken_here : IsTakenAll w.bytes (length w.bytes) (w.session.name ∷ []) limit budget T
+  taken_here = subst (λ (b : List ℕ). IsTakenAll b (length b) (w.session.name ∷ []) limit budget T) apart.bytes (subst (λ (ns : List (List ℕ)). IsTakenAll p.image.bytes (length p.image.bytes) ns limit budget T) named taken)
 
-  begun_here : HasTakenAll (w.session.name ∷ []) p.limit p.budget T
-  begun_here = subst (λ (ns : List (List ℕ)). HasTakenAll ns p.limit p.budget T) named begun
+  begun_here : HasTakenAll (w.session.name ∷ []) limit budget T
+  begun_here = subst (λ (ns : List (List ℕ)). HasTakenAll ns limit budget T) named begun
 
   bytes : n.bytes ≡ w.bytes
   bytes = some_is n.bytes p.image.bytes same.bytes ∙ apart.bytes
@@ -362,19 +375,19 @@ module _ (w : WorldView) (p : WorldParts) (apart : IsApart w p) (T : Sessions) (
     pub apart_fits : HaveFileLog machine (settled_in (alone (world_rules w) s))
     apart_fits =
         subst (λ (x : SeveralView). HaveFileLog x (settled_in (alone (world_rules w) s))) (sym machine_is)
-        (one_fits w s h T p.limit p.budget apart.limit apart.budget taken_here begun_here n bytes history)
+        (one_fits w s h T limit budget limited budgeted taken_here begun_here n bytes history)
 
     pub apart_rows : (k : ℕ) → ((u : Session) → slice_get T.parts 0 ≡ Some u → k ≡ u.committed) → k ≡ s.flushed
-    apart_rows k told = one_rows w s h T p.limit p.budget apart.limit apart.budget taken_here begun_here k told
+    apart_rows k told = one_rows w s h T limit budget limited budgeted taken_here begun_here k told
 
     pub apart_rules : rules_of machine ≡ world_rules w ∷ []
-    apart_rules = ap rules_of machine_is ∙ one_rules w s h T p.limit p.budget apart.limit apart.budget taken_here begun_here n
+    apart_rules = ap rules_of machine_is ∙ one_rules w s h T limit budget limited budgeted taken_here begun_here n
 
     pub apart_names : names_of machine ≡ w.session.name ∷ []
-    apart_names = ap names_of machine_is ∙ one_names w s h T p.limit p.budget apart.limit apart.budget taken_here begun_here n
+    apart_names = ap names_of machine_is ∙ one_names w s h T limit budget limited budgeted taken_here begun_here n
 
-    pub apart_keeps : IsKeptOf p.limit p.budget false T
-    apart_keeps = one_keeps w s h T p.limit p.budget apart.limit apart.budget taken_here begun_here
+    pub apart_keeps : HasOneBudget T
+    apart_keeps = one_keeps w s h T limit budget limited budgeted taken_here begun_here
 
     pub apart_hold : IsLeftOpen p.image.bytes → HasRoomFor p.session (steady p.image) → HoldsAll T n p.attempts qs
     apart_hold left room =
@@ -386,7 +399,7 @@ module _ (w : WorldView) (p : WorldParts) (apart : IsApart w p) (T : Sessions) (
         record { pieces = (let many : length p.session.pending ≡ length w.session.pending = ap (λ (x : Session). length x.pending) apart.session in omega (arith, pieces, many, same.pieces)); end = omega (arith, end, last, same.end) } in
         subst (λ (x : List Place). HoldsAll T n p.attempts x) (sym places)
         (subst (λ (a : ℕ). HoldsAll T n a (map only_place w.readers)) (sym apart.attempts)
-        (one_hold w s h T p.limit p.budget apart.limit apart.budget taken_here begun_here n (subst IsLeftOpen apart.bytes left) bytes history own apart.places))
+        (one_hold w s h T limit budget limited budgeted taken_here begun_here n (subst IsLeftOpen apart.bytes left) bytes history own apart.places))
 
   pub apart_journal : machine.journal ≡ w.journal
   apart_journal = history

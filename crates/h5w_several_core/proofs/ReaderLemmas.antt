@@ -15,8 +15,8 @@ use Rattle.h5w_reader.specs.declared.reader.ReaderCore.{ReaderCore}
 use Rattle.h5w_writer.specs.Sessions.{Session}
 use Rattle.h5w_writer_laws.proofs.PieceLemmas.{some_is}
 use Rattle.h5w_several_writer_laws.specs.Sessions.{Sessions}
-use Rattle.h5w_several_scripts.specs.Scripts.{FileState, says}
-use Rattle.h5w_several_scripts.specs.Polled.{Places}
+use Rattle.h5w_several_script_laws.specs.Scripts.{FileState, says}
+use Rattle.h5w_several_script_laws.specs.Polled.{Places}
 use Rattle.h5w_several_world_laws.specs.Worlds.{HaveOneFileLog}
 use Rattle.h5w_steady.specs.Steady.{steady}
 use Rattle.h5w_space.specs.declared.Full.{Full}

@@ -2,7 +2,7 @@
 use Rattle.std.proofs.Common.{◌≡◌, ℕ, ◌+◌, ◌-◌, ◌<◌, List, [], ◌∷◌, ◌++◌, length, Option, Some, None, refl, sym, ap, subst, arith}
 use Rattle.std.specs.Prelude.{IfSome}
 use Rattle.h5w_model.specs.Lawful.{Rules}
-use Rattle.h5w_several_scripts.specs.Scripts.{AllowedAll, FileLine, FileReply as ScriptReply, FileState, LawfulAll, next_all, uses, using}
+use Rattle.h5w_several_script_laws.specs.Scripts.{AllowedAll, FileLine, FileReply as ScriptReply, FileState, LawfulAll, next_all, uses, using}
 use Rattle.h5w_several_world_laws.proofs.StepLemmas.{step_laws}
 use Rattle.h5w_several_core.specs.Places.{place_at}
 use Rattle.h5w_several_core.specs.Runs.{FileRuns, RunsLawfullyAll, UsesLawfully, file_after, lines_in, replies_in}

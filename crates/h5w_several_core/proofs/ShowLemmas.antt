@@ -14,7 +14,7 @@ use Rattle.h5w_several_writer.specs.Refusals.{HasRoomForAll}
 use Rattle.h5w_several_writer.proofs.EndLemmas.{stopped_none}
 use Rattle.h5w_several_writer_laws.specs.Sessions.{AfterPieceOf, Sessions, all_pending, stopped_all}
 use Rattle.h5w_several_writer_laws.specs.Standing.{StandsAll, and_then}
-use Rattle.h5w_several_scripts.specs.Scripts.{FileReply, says}
+use Rattle.h5w_several_script_laws.specs.Scripts.{FileReply, says}
 use Rattle.h5w_several_world_laws.proofs.StepLemmas.{shown_none, shown_steps, stopped_steps}
 use Rattle.h5w_several_core.specs.Places.{place_at}
 use Rattle.h5w_several_core.specs.Worlds.{FileSteps, HoldsAll, SeveralView, StandsForFile, pollings_of, shown_log}
@@ -89,13 +89,6 @@ module _ (S T : Sessions) (m n : MemView) (attempts count left : ℕ) (ps : List
       ap (λ (U : Sessions). polls_in U.places.limit attempts U.parts) x.1
   polls_by (w ∷ ws) pending = kept_polls S T m n attempts ps (shown.parts w ws pending)
 
-  stops_by : (ws : List Write) → all_pending S.parts ≡ ws → T.stopped ≡ S.stopped
-  stops_by [] pending = ap (λ (U : Sessions). U.stopped) (shown.nothing pending).1
-  stops_by (w ∷ ws) pending = ap (λ (U : Sessions). U.stopped) (shown.parts w ws pending).session
-
-  pub show_stops : T.stopped ≡ S.stopped
-  show_stops = stops_by (all_pending S.parts) refl
-
   pub show_polls : pollings_of (world_of T n attempts ps) ≡ pollings_of (world_of S m attempts ps)
   show_polls = polls_by (all_pending S.parts) refl
 
@@ -131,9 +124,6 @@ module _ (S T : Sessions) (m : MemView) (attempts : ℕ) (ps : List Place) (is :
   stop_hold h =
       subst (λ (U : Sessions). HoldsAll U m attempts ps) (sym is)
       (steps_hold S (stopped_all S) m m attempts ps ps events.Stop (says replies.Stopped) h tt stopped_file (stopped_room h.room) refl (front_stopped S m.bytes h.front) h.count)
-
-  pub stop_stops : T.stopped ≡ true
-  stop_stops = ap (λ (U : Sessions). U.stopped) is
 
 -- ---- Room
 

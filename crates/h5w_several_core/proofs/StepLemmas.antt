@@ -5,7 +5,7 @@ use Rattle.h5w_model.specs.Several.{FileLog}
 use Rattle.h5w_model.specs.declared.memory.OutOfMemory.{OutOfMemory}
 use Rattle.h5w_space.specs.declared.Full.{Full}
 use Rattle.h5w_several_writer.specs.Refusals.{IsFullAmong}
-use Rattle.h5w_several_scripts.specs.Scripts.{AllowedAll, FileState, next_all}
+use Rattle.h5w_several_script_laws.specs.Scripts.{AllowedAll, FileState, next_all}
 use Rattle.h5w_core.specs.Worlds.{full_reply}
 use Rattle.h5w_several_core.specs.Worlds.{FileSteps, HaveFileLog, IsUsedBy, SeveralView, StandsForFile, line_of, logged_in, reply_of}
 use Rattle.h5w_several_core.specs.declared.events.FileEvent.{FileEvent}

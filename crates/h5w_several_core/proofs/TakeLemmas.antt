@@ -36,18 +36,18 @@ use Rattle.h5w_takeover_laws.specs.Several.{CarriesOn, IsAlike}
 use Rattle.h5w_takeover_laws.proofs.AlikeLemmas.{stays_alike}
 use Rattle.h5w_takeover_laws.proofs.CarryAllLemmas.{carries_all}
 use Rattle.h5w_takeover_laws.proofs.CreatedLemmas.{answers_all}
-use Rattle.h5w_several_scripts.specs.Scripts.{FileState, SetState, flushed_of, goes_on, settled_in, settled_set, takes, took_over}
-use Rattle.h5w_several_scripts.specs.Polled.{Places}
+use Rattle.h5w_several_script_laws.specs.Scripts.{FileState, SetState, flushed_of, goes_on, settled_in, settled_set, takes, took_over}
+use Rattle.h5w_several_script_laws.specs.Polled.{Places}
 use Rattle.h5w_several_world_laws.specs.Takeovers.{ArePartsTaken, IsTakenFrom}
 use Rattle.h5w_several_world_laws.specs.Worlds.{HaveOneFileLog, polling_in}
 use Rattle.h5w_several_world_laws.proofs.StepLemmas.{begun_there, states_length, tells_of}
 use Rattle.h5w_several_world_laws.proofs.TakenLemmas.{going_steps, taken_log, taken_steps}
 use Rattle.h5w_several_core.specs.Places.{place_at}
-use Rattle.h5w_several_core.specs.Worlds.{FileSteps, HasFront, HoldsAll, IsKeptOf, SeveralView, StandsForFile, pollings_of}
+use Rattle.h5w_several_core.specs.Worlds.{FileSteps, HasFront, HasOneBudget, HoldsAll, SeveralView, StandsForFile, pollings_of}
 use Rattle.h5w_several_core.specs.declared.events.FileEvent.TheVariants as events
 use Rattle.h5w_several_core.specs.declared.places.Place.{Place}
 use Rattle.h5w_several_core.proofs.FrontLemmas.{front_moved, front_taken}
-use Rattle.h5w_several_core.proofs.KeptLemmas.{kept_by, some_parts}
+use Rattle.h5w_several_core.proofs.KeptLemmas.{kept_by, some_parts, told_budgets}
 use Rattle.h5w_several_core.proofs.MachineLemmas.{StepsOn, file_steps, same_logs, steps_hold, world_of}
 use Rattle.h5w_several_core.proofs.RuleLemmas.{polls_in}
 
@@ -214,8 +214,8 @@ module _ (S : Sessions) (m : MemView) (attempts : ℕ) (ps : List Place) (h : Ho
       (subst (λ (b : List ℕ). IsTakenAnswer b (length b) (names_in S.parts) limit budget r) is answer)
 
   -- so the session may be taken over by its names
-  pub may_take : (limit budget : ℕ) (stopped : Bool) (names : List (List ℕ)) → IsKeptOf limit budget stopped S → AreSessions S → names ≡ names_in S.parts → MayTake m.bytes names limit budget
-  may_take limit budget stopped names kept sessions is =
+  pub may_take : (limit budget : ℕ) (names : List (List ℕ)) → HasOneBudget S → limit ≡ S.places.limit → ((s : Session) → slice_get S.parts 0 ≡ Some s → budget ≡ s.budget) → AreSessions S → names ≡ names_in S.parts → MayTake m.bytes names limit budget
+  may_take limit budget names kept limited budgeted sessions is =
       subst (λ (ns : List (List ℕ)). MayTake m.bytes ns limit budget) (sym is)
       (let some = sessions.some in
       let few = sessions.few in
@@ -223,15 +223,15 @@ module _ (S : Sessions) (m : MemView) (attempts : ℕ) (ps : List Place) (h : Ho
         some = omega (arith, some, names_many);
         few = omega (arith, few, names_many);
         short = names_short;
-        low = kept.low;
-        high = subst (λ (l : ℕ). l ≤ 2 ^ 40) kept.limited h.limit;
-        budgets = budget_bounds S S.parts budget sessions.each kept.budgets some;
+        low = subst (λ (l : ℕ). 1024 ≤ l) (sym limited) kept.low;
+        high = subst (λ (l : ℕ). l ≤ 2 ^ 40) (sym limited) h.limit;
+        budgets = budget_bounds S S.parts budget sessions.each (told_budgets S budget kept some budgeted) some;
         unrefused = λ r answer. unrefused_all limit budget r sessions answer;
       })
 
   -- ---- It was taken over
 
-  module _ (T : Sessions) (n : MemView) (limit budget : ℕ) (kept : IsKeptOf limit budget true S) (same : Same (steady m) (steady n)) (taken : IsTakenAll m.bytes (length m.bytes) (names_in S.parts) limit budget T) (begun : HasTakenAll (names_in S.parts) limit budget T) where
+  module _ (T : Sessions) (n : MemView) (limit budget : ℕ) (kept : HasOneBudget S) (limited : limit ≡ S.places.limit) (budgets : AllByRecursion (λ (s : Session). s.budget ≡ budget) S.parts) (stops : S.stopped ≡ true) (same : Same (steady m) (steady n)) (taken : IsTakenAll m.bytes (length m.bytes) (names_in S.parts) limit budget T) (begun : HasTakenAll (names_in S.parts) limit budget T) where
     abbrev old : SeveralView
     old = world_of S m attempts ps
 
@@ -240,9 +240,8 @@ module _ (S : Sessions) (m : MemView) (attempts : ℕ) (ps : List Place) (h : Ho
 
     carried : (log : FileLog) → StandsForFile old log → CarriesOn S T log
     carried log st =
-        let low = kept.limited in
-        carries_all S T log limit budget st.stands (some_parts S m attempts ps h) st.begun (omega (arith, low))
-        (subst (λ (b : List ℕ). IsTakenAll b (length b) (names_in S.parts) limit budget T) (now_is log st) taken) kept.low (subst (λ (l : ℕ). l ≤ 2 ^ 40) kept.limited h.limit)
+        carries_all S T log limit budget st.stands (some_parts S m attempts ps h) st.begun (omega (arith, limited))
+        (subst (λ (b : List ℕ). IsTakenAll b (length b) (names_in S.parts) limit budget T) (now_is log st) taken) (subst (λ (l : ℕ). 1024 ≤ l) (sym limited) kept.low) (subst (λ (l : ℕ). l ≤ 2 ^ 40) (sym limited) h.limit)
 
     abbrev goes : CarriesOn S T have.log
     goes = carried have.log h.fits.file
@@ -255,10 +254,10 @@ module _ (S : Sessions) (m : MemView) (attempts : ℕ) (ps : List Place) (h : Ho
 
     from : IsTakenFrom S T
     from = record {
-      limit = begun.limited ∙ sym kept.limited;
+      limit = begun.limited ∙ limited;
       end = goes.end;
       going = begun.going;
-      parts = are_taken budget T.root S.parts T.parts begun.each kept.budgets begun.idle alike;
+      parts = are_taken budget T.root S.parts T.parts begun.each budgets begun.idle alike;
     }
 
     take_polls : pollings_of then ≡ pollings_of old
@@ -267,10 +266,10 @@ module _ (S : Sessions) (m : MemView) (attempts : ℕ) (ps : List Place) (h : Ho
     taken_on : (F : FileState) (x : HaveOneFileLog S attempts (place_at ps) F) → StandsForFile old x.log → StepsOn attempts (place_at ps) F takes (took_over (rows_in T.parts)) T (and_then takes_over x.log)
     taken_on F x file =
         let stands = (carried x.log file).stands in
-        let s = taken_steps S T attempts (place_at ps) F x kept.stops stands from in
+        let s = taken_steps S T attempts (place_at ps) F x stops stands from in
         let rows : rows_in T.parts ≡ flushed_of F.sets = committed_all T attempts (place_at ps) (settled_in F) s.fits ∙ settled_rows F.sets in
         subst (λ (ns : List ℕ). StepsOn attempts (place_at ps) F takes (took_over ns) T (and_then takes_over x.log)) (sym rows)
-        (record { allowed = s.allowed; fits = s.fits; log_is = taken_log S T attempts (place_at ps) F x kept.stops stands from })
+        (record { allowed = s.allowed; fits = s.fits; log_is = taken_log S T attempts (place_at ps) F x stops stands from })
 
     take_done : FileSteps old events.Takeover (took_over (rows_in T.parts)) then
     take_done =
@@ -293,14 +292,15 @@ module _ (S : Sessions) (m : MemView) (attempts : ℕ) (ps : List Place) (h : Ho
 
 -- ---- By the value of the machine
 
-module _ (S : Sessions) (m : MemView) (attempts : ℕ) (ps : List Place) (w : SeveralView) (view : world_of S m attempts ps ≡ w) (h : HoldsAll S m attempts ps) (limit budget : ℕ) (stopped : Bool) (kept : IsKeptOf limit budget stopped S) where
+module _ (S : Sessions) (m : MemView) (attempts : ℕ) (ps : List Place) (w : SeveralView) (view : world_of S m attempts ps ≡ w) (h : HoldsAll S m attempts ps) where
   -- the writer was not stopped
-  pub running_done : stopped ≡ false → FileSteps w events.Takeover goes_on (world_of S m attempts ps)
-  running_done is = subst (λ (x : SeveralView). FileSteps x events.Takeover goes_on (world_of S m attempts ps)) view (going_done S m attempts ps (kept.stops ∙ is))
+  pub running_done : S.stopped ≡ false → FileSteps w events.Takeover goes_on (world_of S m attempts ps)
+  running_done going = subst (λ (x : SeveralView). FileSteps x events.Takeover goes_on (world_of S m attempts ps)) view (going_done S m attempts ps going)
 
-  module _ (is : stopped ≡ true) (names : List (List ℕ)) (named : names ≡ names_in S.parts) (T : Sessions) (n : MemView) (same : Same (steady m) (steady n)) (taken : IsTakenAll m.bytes (length m.bytes) names limit budget T) (begun : HasTakenAll names limit budget T) where
-    stops : IsKeptOf limit budget true S
-    stops = subst (λ (b : Bool). IsKeptOf limit budget b S) is kept
+  module _ (stops : S.stopped ≡ true) (kept : HasOneBudget S) (limit budget : ℕ) (limited : limit ≡ S.places.limit) (budgeted : (s : Session) → slice_get S.parts 0 ≡ Some s → budget ≡ s.budget) (names : List (List ℕ)) (named : names ≡ names_in S.parts) (T : Sessions) (n : MemView)
+      (same : Same (steady m) (steady n)) (taken : IsTakenAll m.bytes (length m.bytes) names limit budget T) (begun : HasTakenAll names limit budget T) where
+    budgets : AllByRecursion (λ (s : Session). s.budget ≡ budget) S.parts
+    budgets = told_budgets S budget kept (some_parts S m attempts ps h) budgeted
 
     taken_here : IsTakenAll m.bytes (length m.bytes) (names_in S.parts) limit budget T
     taken_here = subst (λ (ns : List (List ℕ)). IsTakenAll m.bytes (length m.bytes) ns limit budget T) named taken
@@ -309,18 +309,15 @@ module _ (S : Sessions) (m : MemView) (attempts : ℕ) (ps : List Place) (w : Se
     begun_here = subst (λ (ns : List (List ℕ)). HasTakenAll ns limit budget T) named begun
 
     own_polls : pollings_of (world_of T n attempts ps) ≡ pollings_of (world_of S m attempts ps)
-    own_polls = take_polls S m attempts ps h T n limit budget stops same taken_here begun_here
+    own_polls = take_polls S m attempts ps h T n limit budget kept limited budgets stops same taken_here begun_here
 
     pub taken_steps_of : (rows : List ℕ) → rows ≡ rows_in T.parts → FileSteps w events.Takeover (took_over rows) (world_of T n attempts ps)
     taken_steps_of rows told =
         subst (λ (ns : List ℕ). FileSteps w events.Takeover (took_over ns) (world_of T n attempts ps)) (sym told)
-        (subst (λ (x : SeveralView). FileSteps x events.Takeover (took_over (rows_in T.parts)) (world_of T n attempts ps)) view (take_done S m attempts ps h T n limit budget stops same taken_here begun_here))
+        (subst (λ (x : SeveralView). FileSteps x events.Takeover (took_over (rows_in T.parts)) (world_of T n attempts ps)) view (take_done S m attempts ps h T n limit budget kept limited budgets stops same taken_here begun_here))
 
     pub taken_polls_of : pollings_of (world_of T n attempts ps) ≡ pollings_of w
     taken_polls_of = own_polls ∙ ap pollings_of view
 
-    pub taken_holds : HoldsAll T n attempts ps × IsKeptOf limit budget false T
-    taken_holds = (
-      take_hold S m attempts ps h T n limit budget stops same taken_here begun_here,
-      kept_by S T m n attempts limit budget true false ps ps h own_polls begun.going stops,
-    )
+    pub taken_holds : HoldsAll T n attempts ps × HasOneBudget T
+    taken_holds = (take_hold S m attempts ps h T n limit budget kept limited budgets stops same taken_here begun_here, kept_by S T m n attempts ps ps h own_polls kept)

@@ -6,7 +6,7 @@ use Rattle.h5w_image.specs.Memory.{MemView}
 use Rattle.h5w_steady.specs.Steady.{steady}
 use Rattle.h5w_creation_laws.specs.CreatedFiles.{CreatedFile}
 use Rattle.h5w_options.specs.declared.options.Options.{Options}
-use Rattle.h5w_form.specs.NewFiles.{new_file}
+use Rattle.h5w_creation.specs.NewFiles.{new_file}
 use Rattle.h5w_several_creation_laws.specs.SeveralFiles.{AreCreatable, created_writes}
 use Rattle.h5w_several_creating.specs.Created.{IsShownAll, shown_file}
 use Rattle.h5w_several_writer.specs.Refusals.{HasRoomForAll}

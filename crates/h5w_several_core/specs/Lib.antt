@@ -1,5 +1,5 @@
 pub use Rattle.h5w_image.specs.View
-pub use Rattle.h5w_several_scripts.specs.Scripts
+pub use Rattle.h5w_several_script_laws.specs.Scripts
 pub use Rattle.h5w_several_writer_laws.specs.Sessions
 pub use Rattle.h5w_several_writer_laws.specs.Standing
 pub mod Places

@@ -1,7 +1,7 @@
 -- Lines that take a dataset into use, and events one after another.
 use Rattle.std.specs.Prelude.{◌≡◌, ℕ, ◌+◌, ◌-◌, ◌<◌, ◌≤◌, List, [], ◌∷◌, ◌++◌, length, None, Some, IfSome}
-use Rattle.h5w_several_scripts.specs.Scripts.{AllowedAll, FileLine, FileState, LawfulAll, next_all, uses, using}
-use Rattle.h5w_several_scripts.specs.Scripts as scripts
+use Rattle.h5w_several_script_laws.specs.Scripts.{AllowedAll, FileLine, FileState, LawfulAll, next_all, uses, using}
+use Rattle.h5w_several_script_laws.specs.Scripts as scripts
 use Rattle.h5w_several_core.specs.Worlds.{FileSteps, HaveFileLog, SeveralView, line_of, reply_of, rules_of, set_in}
 use Rattle.h5w_several_core.specs.declared.events.FileEvent.{FileEvent}
 use Rattle.h5w_several_core.specs.declared.events.FileReply.{FileReply}

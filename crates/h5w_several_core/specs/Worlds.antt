@@ -20,8 +20,8 @@ use Rattle.h5w_front_laws.specs.Laws.{AllKeepWritten}
 use Rattle.h5w_several_writer.specs.Refusals.{HasRoomForAll, append_refusal_in, flush_refusal_of}
 use Rattle.h5w_several_writer_laws.specs.Sessions.{SameButHeld, Sessions, all_pending}
 use Rattle.h5w_several_writer_laws.specs.Standing.{StandsAll, and_then}
-use Rattle.h5w_several_scripts.specs.Scripts.{AllowedAll, FileLine, FileState, asks, flushing_each, goes_on, next_all, says, takes, took_over}
-use Rattle.h5w_several_scripts.specs.Scripts as scripts
+use Rattle.h5w_several_script_laws.specs.Scripts.{AllowedAll, FileLine, FileState, asks, flushing_each, goes_on, next_all, says, takes, took_over}
+use Rattle.h5w_several_script_laws.specs.Scripts as scripts
 use Rattle.h5w_several_world_laws.specs.Worlds.{HaveOneFileLog, polling_in}
 use Rattle.h5w_core.specs.Readers.{IsCalling, MayRead}
 use Rattle.h5w_core.specs.Worlds.{AreRowsBy}
@@ -162,13 +162,12 @@ pub record HoldsAll (S : Sessions) (m : MemView) (attempts : ℕ) (places : List
   pub script : FileState
   pub fits : HaveFileLog (record { session = S; bytes = m.bytes; journal = m.history; attempts = attempts; places = places }) script
 
--- What it keeps of its session beside it: the most bytes of the file, those of each dataset that may wait, and whether
--- the session was stopped.
-pub record IsKeptOf (limit budget : ℕ) (stopped : Bool) (S : Sessions) : Type 0 where
-  pub low : 1024 ≤ limit
-  pub limited : S.places.limit ≡ limit
+-- What another writer needs that takes the file over by the session's limit and budget: the limit is one that a file may
+-- have, and the budget is that of each dataset.
+pub record HasOneBudget (S : Sessions) : Type 0 where
+  pub low : 1024 ≤ S.places.limit
+  pub budget : ℕ
   pub budgets : AllByRecursion (λ (s : Session). s.budget ≡ budget) S.parts
-  pub stops : S.stopped ≡ stopped
 
 -- ---- What is refused
 

@@ -15,8 +15,8 @@ ghost use Rattle.h5w_several_writer.specs.Flows.{KeepsParts};
 ghost use Rattle.h5w_several_writer.specs.Refusals.{HasRoomForAll, IsFullAmong};
 ghost use Rattle.h5w_several_writer_laws.specs.Sessions.{AfterPieceOf, all_pending};
 ghost use Rattle.h5w_several_writer_laws.specs.Standing.{StandsAll, and_then};
-ghost use Rattle.h5w_several_scripts.specs.Alone.{alone};
-ghost use Rattle.h5w_several_scripts.specs.Scripts.{FileState, AllowedAll, first_in, next_all, settled_in};
+ghost use Rattle.h5w_several_script_laws.specs.Alone.{alone};
+ghost use Rattle.h5w_several_script_laws.specs.Scripts.{FileState, AllowedAll, first_in, next_all, settled_in};
 ghost use Rattle.h5w_core.specs.Readers.{IsCalling, MayRead};
 ghost use Rattle.h5w_core.specs.Worlds.{HaveOneLog, full_reply, rules_for, rules_of as rules_of_one};
 ghost use Rattle.h5w_several_core.specs.Creation.{AllSome, CreatesAll, new_files};
@@ -27,7 +27,7 @@ use crate::events::{FileEvent, FileReply};
 use crate::places::{self, Place};
 use crate::taking;
 use h5w_core::{World, WorldParts, readers};
-use h5w_form::form_of;
+use h5w_creation::form_of;
 use h5w_image::Journal;
 use h5w_model::{OutOfMemory, Reply, Write};
 use h5w_names::Names;
@@ -49,18 +49,13 @@ pub struct SeveralWorld {
     attempts: u32,
     /// A place for each reader, by its number.
     places: Vec<Place>,
-    /// The most bytes of the file, and of each dataset those that may wait: with these another writer takes it over.
-    limit: u64,
-    budget: u64,
-    /// The writer was stopped.
-    stopped: bool,
 }
 
 impl Model for SeveralWorld {
     ghost use Rattle.std.specs.Coded.{codes};
     ghost use Rattle.h5w_writer.specs.Codes.{tree_code};
     ghost use Rattle.h5w_reader.specs.contracts.reader.ReaderCore as core;
-    ghost use Rattle.h5w_several_core.specs.Worlds.{HoldsAll, IsKeptOf, SeveralView};
+    ghost use Rattle.h5w_several_core.specs.Worlds.{HasOneBudget, HoldsAll, SeveralView};
 
     ghost Value = { SeveralView };
 
@@ -68,7 +63,7 @@ impl Model for SeveralWorld {
 
     ghost view = { λ w. record { session = w.session; bytes = w.image.bytes; journal = w.image.history; attempts = w.attempts; places = w.places.items } };
 
-    ghost invariant = { λ w. HoldsAll w.session w.image w.attempts w.places.items × IsKeptOf w.limit w.budget w.stopped w.session };
+    ghost invariant = { λ w. HoldsAll w.session w.image w.attempts w.places.items × HasOneBudget w.session };
 }
 
 /// The oldest pending piece becomes visible, where there is one. Answers how many pieces became visible.
@@ -176,17 +171,13 @@ impl SeveralWorld {
             image,
             attempts,
             places,
-            limit: options.limit,
-            budget: options.budget,
-            stopped: false,
         })
     }
 
-    /// The machine of the one name of a world whose writer was stopped, once another writer took its file over, and the
-    /// rows that were flushed: with these it goes on. The takeover is as `step` says; it is never refused. Readers go on,
-    /// and so does the journal. The world is gone, also after an error.
+    /// The machine of the one name of a world, once another writer took its file over, and the rows that were flushed:
+    /// with these it goes on. The takeover is as `step` says of a writer that was stopped; it is never refused. Readers
+    /// go on, and so does the journal. The world is gone, also after an error.
     pub fn of_one(world: World) -> Result<(SeveralWorld, u64), OutOfMemory>
-        requires stopped { world.session.stopped ≡ true }
         ensures fits { IfOk result (λ x. (s : ScriptState) → HaveOneLog world s → HaveFileLog x.0 (settled_in (alone (rules_of_one world) s))) }
         ensures rows { IfOk result (λ x. (s : ScriptState) → HaveOneLog world s → x.1 ≡ s.flushed) }
         ensures rules { IfOk result (λ x. rules_of x.0 ≡ rules_of_one world ∷ []) }
@@ -198,11 +189,10 @@ impl SeveralWorld {
             mut image,
             attempts,
             readers,
-            limit,
-            budget,
         } = world.into_parts();
         let alloc = *readers.allocator();
         let names = Names::of(alloc, before.name())?;
+        let (limit, budget) = (before.limit(), before.budget());
         let session = taking::taken(alloc, &mut image, &names, limit, budget)?;
         let places = places::of_one(alloc, readers)?;
         let rows = session.committed(0);
@@ -212,9 +202,6 @@ impl SeveralWorld {
             image,
             attempts,
             places,
-            limit,
-            budget,
-            stopped: false,
         };
         Ok((machine, rows))
     }
@@ -348,7 +335,6 @@ impl SeveralWorld {
         ensures polls { pollings_of self.new ≡ pollings_of self.old }
     {
         self.session.stop();
-        self.stopped = true;
         FileReply::Says(Reply::Stopped)
     }
 
@@ -363,14 +349,15 @@ impl SeveralWorld {
         ensures kept { OnErr result (self.new ≡ self.old) }
         ensures memory { OnErr result (MayWantMemoryIn self.old FileEvent.Takeover) }
     {
-        if !self.stopped {
+        if !self.session.is_stopped() {
             return Ok(FileReply::Running);
         }
         let names = taking::names(self.alloc, &self.session)?;
-        let session = taking::taken(self.alloc, &mut self.image, &names, self.limit, self.budget)?;
+        let limit = self.session.limit();
+        let budget = self.session.budget(0);
+        let session = taking::taken(self.alloc, &mut self.image, &names, limit, budget)?;
         let rows = taking::committed(&session);
         self.session = session;
-        self.stopped = false;
         Ok(FileReply::TakenOver { rows })
     }
 

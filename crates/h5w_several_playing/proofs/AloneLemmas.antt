@@ -5,8 +5,8 @@ use Rattle.h5w_model.specs.Lawful.{Rules, ScriptState}
 use Rattle.h5w_input.specs.LinesAhead.{IsLine}
 use Rattle.h5w_input.specs.declared.line.TextLine.{TextLine}
 use Rattle.h5w_core.specs.Worlds.{HaveOneLog, WorldView, rules_of}
-use Rattle.h5w_several_scripts.specs.Alone.{alone}
-use Rattle.h5w_several_scripts.specs.Scripts.{FileState, AllowedAll, goes_on, next_all, settled_in, takes, took_over}
+use Rattle.h5w_several_script_laws.specs.Alone.{alone}
+use Rattle.h5w_several_script_laws.specs.Scripts.{FileState, AllowedAll, goes_on, next_all, settled_in, takes, took_over}
 use Rattle.h5w_several_world_laws.proofs.StepLemmas.{match_yes}
 use Rattle.h5w_several_core.specs.Worlds as machines
 use Rattle.h5w_several_core.specs.Worlds.{HaveFileLog, SeveralView}

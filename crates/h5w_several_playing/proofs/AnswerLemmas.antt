@@ -5,7 +5,7 @@ use Rattle.h5w_model.specs.Lawful.{Line, Rules, adds, ends, flushes, looks, open
 use Rattle.h5w_input.specs.LinesAhead.{IsLine}
 use Rattle.h5w_input.specs.declared.line.TextLine.{TextLine}
 use Rattle.h5w_input.specs.declared.line.TextLine.TheVariants.{Whole}
-use Rattle.h5w_several_scripts.specs.Scripts.{FileLine, FileState, AllowedAll, asks, next_all, takes, uses, using}
+use Rattle.h5w_several_script_laws.specs.Scripts.{FileLine, FileState, AllowedAll, asks, next_all, takes, uses, using}
 use Rattle.h5w_several_core.specs.Worlds.{HaveFileLog, IsUsedBy, SeveralView, line_of, reply_of, rules_of}
 use Rattle.h5w_several_core.specs.declared.events.FileEvent.{FileEvent}
 use Rattle.h5w_several_core.specs.declared.events.FileReply.{FileReply}

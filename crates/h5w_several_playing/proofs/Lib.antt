@@ -1,7 +1,7 @@
-pub mod UsedLemmas
-pub mod PieceLemmas
-pub mod LookLemmas
-pub mod ScriptLemmas
-pub mod StartLemmas
-pub mod AnswerLemmas
-pub mod AloneLemmas
+mod UsedLemmas
+mod PieceLemmas
+mod LookLemmas
+mod ScriptLemmas
+mod StartLemmas
+mod AnswerLemmas
+mod AloneLemmas

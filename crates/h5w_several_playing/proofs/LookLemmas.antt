@@ -7,8 +7,8 @@ use Rattle.h5w_model.specs.declared.reply.Reply.TheVariants as replies
 use Rattle.h5w_script_laws.specs.OneByOne.{EndsLine, LookedOn}
 use Rattle.h5w_script_laws.proofs.OneByOneLemmas.{looks_one_by_one}
 use Rattle.h5w_script_laws.proofs.PutLemmas.{put_there}
-use Rattle.h5w_several_scripts.specs.Scripts.{FileState, SetState, AllowedAll, AllowedOf, asks, next_all, says, set_asked, set_of, sets_after, with_state}
-use Rattle.h5w_several_scripts.proofs.SetLemmas.{got_is}
+use Rattle.h5w_several_script_laws.specs.Scripts.{FileState, SetState, AllowedAll, AllowedOf, asks, next_all, says, set_asked, set_of, sets_after, with_state}
+use Rattle.h5w_several_script_laws.proofs.SetLemmas.{got_is}
 
 -- ---- Looks one by one
 

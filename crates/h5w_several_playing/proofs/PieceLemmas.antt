@@ -3,7 +3,7 @@ use Rattle.std.proofs.Common.{ℕ, ◌+◌, ◌-◌, ◌<◌, ◌≤◌, ◌≡�
 use Rattle.std.proofs.lemmas.Bool.{cases_lt, cond-false}
 use Rattle.h5w_model.specs.Lawful.{Rules, ScriptState, after_shows, committed, shows_up_to}
 use Rattle.h5w_model.specs.declared.reply.Reply.TheVariants as replies
-use Rattle.h5w_several_scripts.specs.Scripts.{FileReply, FileState, SetState, AllowedAll, asks, left_after, next_all, pending_in, says, shown_sets, total, with_state}
+use Rattle.h5w_several_script_laws.specs.Scripts.{FileReply, FileState, SetState, AllowedAll, asks, left_after, next_all, pending_in, says, shown_sets, total, with_state}
 use Rattle.h5w_playing.proofs.ShowLemmas.{fewer_shown, nothing_shown, one_behind}
 
 -- the state once so many pieces became visible

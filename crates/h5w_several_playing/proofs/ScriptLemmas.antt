@@ -7,7 +7,7 @@ use Rattle.h5w_model.specs.declared.reply.Reply.TheVariants as replies
 use Rattle.h5w_script_laws.specs.OneByOne.{EndsLine}
 use Rattle.h5w_writer.specs.Sessions.{Session}
 use Rattle.h5w_several_writer_laws.specs.Sessions.{all_pending}
-use Rattle.h5w_several_scripts.specs.Scripts.{FileReply, FileState, SetState, AllowedAll, asks, due, flushing_each, goes_on, left_after, next_all, pending_in, says, shown_sets, takes, took_over, total, using}
+use Rattle.h5w_several_script_laws.specs.Scripts.{FileReply, FileState, SetState, AllowedAll, asks, due, flushing_each, goes_on, left_after, next_all, pending_in, says, shown_sets, takes, took_over, total, using}
 use Rattle.h5w_several_world_laws.specs.Worlds.{AreStatesOf}
 use Rattle.h5w_several_world_laws.proofs.ShownLemmas.{total_left}
 use Rattle.h5w_several_core.specs.Worlds.{HaveFileLog, SeveralView, reply_of, rules_of}

@@ -7,7 +7,7 @@ use Rattle.h5w_options.specs.Options.{cutting_by}
 use Rattle.h5w_options.specs.declared.options.Options.{Options}
 use Rattle.h5w_core.specs.Worlds.{rules_for}
 use Rattle.h5w_several_creation.specs.Forms.{AreNames}
-use Rattle.h5w_several_scripts.specs.Scripts.{first_in}
+use Rattle.h5w_several_script_laws.specs.Scripts.{first_in}
 use Rattle.h5w_several_core.specs.Worlds.{HaveFileLog, SeveralView, rules_of}
 use Rattle.h5w_playing.specs.Starts.{spelling_for, state_for}
 use Rattle.h5w_several_playing.specs.Sets.{FitsAll, IsScript, spelling_in}

@@ -3,7 +3,7 @@ use Rattle.std.proofs.Common.{◌≡◌, ℕ, ℤ, List, refl}
 use Rattle.h5w_model.specs.Lawful.{Line, adds, flushes, shows_up_to, ends, opens, refreshes, reads, looks}
 use Rattle.h5w_model.specs.declared.reply.Reply.{Reply}
 use Rattle.h5w_model.specs.declared.reply.Reply.TheVariants as replies
-use Rattle.h5w_several_scripts.specs.Scripts.{FileReply, FileState, asks, flushing_each, goes_on, next_all, says, took_over, using}
+use Rattle.h5w_several_script_laws.specs.Scripts.{FileReply, FileState, asks, flushing_each, goes_on, next_all, says, took_over, using}
 
 after_append : (F : FileState) (vs : List ℤ) (reply : Reply) → (next_all F (asks (adds vs)) (says reply)).used ≡ F.used
 after_append F vs (replies.Appended rows pending) = refl

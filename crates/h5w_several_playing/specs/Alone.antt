@@ -3,7 +3,7 @@ use Rattle.std.specs.Prelude.{◌≡◌, ℕ, true, List, ◌++◌, Some}
 use Rattle.h5w_core.specs.Worlds.{WorldView}
 use Rattle.h5w_input.specs.LinesAhead.{IsLine}
 use Rattle.h5w_input.specs.declared.line.TextLine.{TextLine}
-use Rattle.h5w_several_scripts.specs.Scripts.{FileReply, FileState, AllowedAll, next_all, takes}
+use Rattle.h5w_several_script_laws.specs.Scripts.{FileReply, FileState, AllowedAll, next_all, takes}
 use Rattle.h5w_playing.specs.Lines.{Spelling, file_line_of}
 use Rattle.h5w_playing.specs.Ones.{FitsAlone, spelling_of}
 use Rattle.h5w_playing.specs.Replies.{file_reply_text}

@@ -1,7 +1,7 @@
 -- A machine of several datasets as what answers the lines of a script.
 use Rattle.std.specs.Prelude.{◌≡◌, ℕ, ◌<◌, ◌≤◌, List, ◌++◌, length, Some, slice_get}
 use Rattle.h5w_model.specs.Lawful.{Line, Rules, adds, looks, opens, reads, refreshes}
-use Rattle.h5w_several_scripts.specs.Scripts.{FileReply, FileState, AllowedAll, asks, next_all, takes}
+use Rattle.h5w_several_script_laws.specs.Scripts.{FileReply, FileState, AllowedAll, asks, next_all, takes}
 use Rattle.h5w_several_core.specs.Worlds.{AreRowsIn, HaveFileLog, SeveralView, rules_of}
 use Rattle.h5w_playing.specs.Lines.{Spelling}
 use Rattle.h5w_playing.specs.Replies.{file_reply_text}

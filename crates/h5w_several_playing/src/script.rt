@@ -4,7 +4,7 @@ ghost use Rattle.h5w_model.specs.Lawful.{Rules, looks, shows_up_to};
 ghost use Rattle.h5w_options.specs.Options.{AreAttempts, AreOptions};
 ghost use Rattle.h5w_input.specs.Words.{line_of_script};
 ghost use Rattle.h5w_several_core.specs.Worlds.{reply_of, rules_of};
-ghost use Rattle.h5w_several_scripts.specs.Scripts.{using};
+ghost use Rattle.h5w_several_script_laws.specs.Scripts.{using};
 ghost use Rattle.h5w_several_creation.specs.Forms.{AreNames};
 ghost use Rattle.h5w_several_creation_laws.specs.SeveralFiles.{AllNamed};
 ghost use Rattle.h5w_playing.specs.Answers.{InRange};

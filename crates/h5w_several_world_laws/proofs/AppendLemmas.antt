@@ -20,9 +20,9 @@ use Rattle.h5w_several_writer_laws.specs.Sessions.{AppendsTo, Sessions, all_pend
 use Rattle.h5w_several_writer_laws.specs.Standing.{StandsAll, and_then}
 use Rattle.h5w_several_writer_laws.proofs.CallLemmas.{calls_stand}
 use Rattle.h5w_several_writer_laws.proofs.FlushAllLemmas.{back_nil, front_nil}
-use Rattle.h5w_several_scripts.specs.Scripts.{FileState, SetState, added, append_reply_in, asks, due, left_of, load_in, next_all, pending_in, says, set_after, sets_after, total}
-use Rattle.h5w_several_scripts.specs.Polled.{Places}
-use Rattle.h5w_several_scripts.proofs.PolledLemmas.{set_there, writer_file_laws}
+use Rattle.h5w_several_script_laws.specs.Scripts.{FileState, SetState, added, append_reply_in, asks, due, left_of, load_in, next_all, pending_in, says, set_after, sets_after, total}
+use Rattle.h5w_several_script_laws.specs.Polled.{Places}
+use Rattle.h5w_several_script_laws.proofs.PolledLemmas.{set_there, writer_file_laws}
 use Rattle.h5w_several_world_laws.specs.Worlds.{AreStatesOf, HaveOneFileLog, IsFileStateOf, IsStateOfPart, polling_in, rules_in}
 use Rattle.h5w_several_world_laws.specs.Steps.{AppendStep, StepsTo}
 use Rattle.h5w_several_world_laws.proofs.BeginningLemmas.{new_then}

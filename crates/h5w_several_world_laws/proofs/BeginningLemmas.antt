@@ -16,9 +16,9 @@ use Rattle.h5w_model.specs.declared.piece.Write.{Write}
 use Rattle.h5w_model.specs.declared.refusal.ReadError.{ReadError}
 use Rattle.h5w_model.specs.declared.root.Super.{Super}
 use Rattle.h5w_laws.proofs.ResultLemmas.{choice_ok}
-use Rattle.h5w_visit_laws.specs.Ranges.{block_at, visits_of}
-use Rattle.h5w_visit_laws.proofs.HeaderLaws.{root_parts}
-use Rattle.h5w_visit_laws.proofs.HeaderVisits.{used_of, looks_of, choice_looks, from_chunk_walked}
+use Rattle.h5w_step_laws.specs.Ranges.{block_at, visits_of}
+use Rattle.h5w_step_laws.proofs.HeaderLaws.{root_parts}
+use Rattle.h5w_step_laws.proofs.HeaderVisits.{used_of, looks_of, choice_looks, from_chunk_walked}
 use Rattle.h5w_step_laws.specs.Moments.{Moment, Represents, reading_of}
 use Rattle.h5w_step_laws.proofs.MomentLemmas.{header_of, root_at}
 use Rattle.h5w_creation_laws.specs.CreatedFiles.{CreatedFile, IsCreatable, root_place}

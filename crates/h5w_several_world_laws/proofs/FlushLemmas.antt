@@ -23,9 +23,9 @@ use Rattle.h5w_several_writer_laws.proofs.BoundLemmas.{bounds_stand}
 use Rattle.h5w_several_writer_laws.proofs.CallLemmas.{calls_stand}
 use Rattle.h5w_several_writer_laws.proofs.FlushAllLemmas.{back_nil, front_nil}
 use Rattle.h5w_several_writer_laws.proofs.GiveLemmas.{standing_all}
-use Rattle.h5w_several_scripts.specs.Scripts.{FileState, SetState, ArePlanned, FlushAllowedIn, IsFullIn, IsPlannedIn, asks, due, flushing_each, load_in, next_all, pending_in, planned, rows_wait, says, some_wait, total}
-use Rattle.h5w_several_scripts.specs.Polled.{Places}
-use Rattle.h5w_several_scripts.proofs.PolledLemmas.{writer_file_laws}
+use Rattle.h5w_several_script_laws.specs.Scripts.{FileState, SetState, ArePlanned, FlushAllowedIn, IsFullIn, IsPlannedIn, asks, due, flushing_each, load_in, next_all, pending_in, planned, rows_wait, says, some_wait, total}
+use Rattle.h5w_several_script_laws.specs.Polled.{Places}
+use Rattle.h5w_several_script_laws.proofs.PolledLemmas.{writer_file_laws}
 use Rattle.h5w_several_world_laws.specs.Worlds.{AreStatesOf, HaveOneFileLog, IsFileStateOf, IsStateOfPart, polling_in, rules_in}
 use Rattle.h5w_several_world_laws.specs.Steps.{FlushStep, StepsTo}
 use Rattle.h5w_several_world_laws.proofs.BeginningLemmas.{new_then}

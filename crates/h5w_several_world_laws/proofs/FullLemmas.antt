@@ -12,8 +12,8 @@ use Rattle.h5w_several_writer_laws.specs.Sessions.{SameButHeld, Sessions, all_pe
 use Rattle.h5w_several_writer_laws.proofs.GiveLemmas.{standing_all}
 use Rattle.h5w_several_writer.specs.Flows.{all_waits}
 use Rattle.h5w_several_writer.specs.Refusals.{NoPlaceAll}
-use Rattle.h5w_several_scripts.specs.Scripts.{FileReply, FileState, SetState, FlushAllowedIn, IsFullIn, asks, load_in, pending_in, rows_wait, says, some_wait, total}
-use Rattle.h5w_several_scripts.specs.Polled.{Places}
+use Rattle.h5w_several_script_laws.specs.Scripts.{FileReply, FileState, SetState, FlushAllowedIn, IsFullIn, asks, load_in, pending_in, rows_wait, says, some_wait, total}
+use Rattle.h5w_several_script_laws.specs.Polled.{Places}
 use Rattle.h5w_several_world_laws.specs.Worlds.{HaveOneFileLog}
 use Rattle.h5w_several_world_laws.specs.Refusals.{FullStep}
 use Rattle.h5w_several_world_laws.specs.Steps.{StepsTo}

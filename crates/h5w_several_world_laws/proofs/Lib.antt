@@ -1,5 +1,5 @@
-pub mod BeginningLemmas
-pub mod HoldingLemmas
+mod BeginningLemmas
+mod HoldingLemmas
 pub mod ShownLemmas
 pub mod StepLemmas
 pub mod AppendLemmas

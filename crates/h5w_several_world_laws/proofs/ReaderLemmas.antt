@@ -13,10 +13,10 @@ use Rattle.h5w_script_laws.specs.Scripts.{Moves, Polled, Readers, Refuses}
 use Rattle.h5w_script_laws.proofs.ScriptLemmas.{begin_line_laws, look_line_laws}
 use Rattle.h5w_writer.specs.Sessions.{Session}
 use Rattle.h5w_several_writer_laws.specs.Sessions.{Sessions}
-use Rattle.h5w_several_scripts.specs.Scripts.{FileState, SetState, asked_of, asks, next_all, says, set_after, set_asked, sets_after}
-use Rattle.h5w_several_scripts.specs.Polled.{IsOf, IsPolled, Places, and_place, readers_of}
-use Rattle.h5w_several_scripts.proofs.PolledLemmas.{next_in, not_placed, placed_here, reader_file_laws, set_there}
-use Rattle.h5w_several_scripts.proofs.SetLemmas.{got_is}
+use Rattle.h5w_several_script_laws.specs.Scripts.{FileState, SetState, asked_of, asks, next_all, says, set_after, set_asked, sets_after}
+use Rattle.h5w_several_script_laws.specs.Polled.{IsOf, IsPolled, Places, and_place, readers_of}
+use Rattle.h5w_several_script_laws.proofs.PolledLemmas.{next_in, not_placed, placed_here, reader_file_laws, set_there}
+use Rattle.h5w_several_script_laws.proofs.SetLemmas.{got_is}
 use Rattle.h5w_several_world_laws.specs.Worlds.{AreStatesOf, HaveOneFileLog, IsStateOfPart, polling_in}
 use Rattle.h5w_several_world_laws.specs.Steps.{StepsTo}
 use Rattle.h5w_several_world_laws.specs.ReaderSteps.{AllReaderSteps}

@@ -11,9 +11,9 @@ use Rattle.h5w_writer.specs.Sessions.{AreRows, Session, chunk_limit, chunks_with
 use Rattle.h5w_several_writer_laws.specs.Sessions.{AreSameBut, SameButHeld, Sessions, all_pending, counts_of}
 use Rattle.h5w_several_writer_laws.specs.Standing.{StandsAll}
 use Rattle.h5w_several_writer_laws.proofs.CallLemmas.{calls_stand}
-use Rattle.h5w_several_scripts.specs.Scripts.{FileState, SetState, append_reply_in, asks, pending_in, says, total}
-use Rattle.h5w_several_scripts.specs.Polled.{Places}
-use Rattle.h5w_several_scripts.proofs.PolledLemmas.{set_there}
+use Rattle.h5w_several_script_laws.specs.Scripts.{FileState, SetState, append_reply_in, asks, pending_in, says, total}
+use Rattle.h5w_several_script_laws.specs.Polled.{Places}
+use Rattle.h5w_several_script_laws.proofs.PolledLemmas.{set_there}
 use Rattle.h5w_several_world_laws.specs.Worlds.{AreStatesOf, HaveOneFileLog, IsStateOfPart, polling_in, rules_in}
 use Rattle.h5w_several_world_laws.specs.Steps.{StepsTo}
 use Rattle.h5w_several_world_laws.specs.Refusals.{AllRefusedSteps, HeldStep}

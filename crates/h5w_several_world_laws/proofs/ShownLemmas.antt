@@ -6,8 +6,8 @@ use Rattle.h5w_model.specs.Lawful.{Rules, ScriptState, after_shows, committed, r
 use Rattle.h5w_model.specs.declared.piece.Write.{Write}
 use Rattle.h5w_writer.specs.Sessions.{AfterPiece, Session, Settles, rows_of}
 use Rattle.h5w_several_writer_laws.specs.Sessions.{AreShown, all_pending, counts_of}
-use Rattle.h5w_several_scripts.specs.Scripts.{SetState, due, left_after, shown_sets, total}
-use Rattle.h5w_several_scripts.proofs.SetLemmas.{got_is}
+use Rattle.h5w_several_script_laws.specs.Scripts.{SetState, due, left_after, shown_sets, total}
+use Rattle.h5w_several_script_laws.proofs.SetLemmas.{got_is}
 use Rattle.h5w_several_world_laws.specs.Worlds.{AreStatesOf, IsStateOfPart, polling_in, rules_in}
 
 -- ---- What a piece leaves of its part

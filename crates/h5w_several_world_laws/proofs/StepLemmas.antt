@@ -15,9 +15,9 @@ use Rattle.h5w_several_writer_laws.specs.Sessions.{AfterPieceOf, Sessions, all_p
 use Rattle.h5w_several_writer_laws.specs.Standing.{StandsAll, and_then}
 use Rattle.h5w_several_writer_laws.proofs.CallLemmas.{calls_stand}
 use Rattle.h5w_several_writer_laws.proofs.GiveLemmas.{standing_all}
-use Rattle.h5w_several_scripts.specs.Scripts.{FileState, SetState, asks, due, left_after, next_all, says, set_after, shown_sets, total, using, uses}
-use Rattle.h5w_several_scripts.specs.Polled.{FilePolled, IsPolled, Places}
-use Rattle.h5w_several_scripts.proofs.PolledLemmas.{writer_file_laws}
+use Rattle.h5w_several_script_laws.specs.Scripts.{FileState, SetState, asks, due, left_after, next_all, says, set_after, shown_sets, total, using, uses}
+use Rattle.h5w_several_script_laws.specs.Polled.{FilePolled, IsPolled, Places}
+use Rattle.h5w_several_script_laws.proofs.PolledLemmas.{writer_file_laws}
 use Rattle.h5w_several_world_laws.specs.Worlds.{AreStatesOf, HaveOneFileLog, IsFileStateOf, IsStateOfPart, polling_in, rules_in}
 use Rattle.h5w_several_world_laws.specs.Steps.{StepLaws, StepsTo}
 use Rattle.h5w_several_world_laws.proofs.BeginningLemmas.{new_then}

@@ -16,9 +16,9 @@ use Rattle.h5w_writer.specs.Sessions.{Session}
 use Rattle.h5w_several_writer_laws.specs.Sessions.{Sessions, counts_of}
 use Rattle.h5w_several_writer_laws.specs.Standing.{StandsAll, and_then}
 use Rattle.h5w_several_writer_laws.proofs.SeenLemmas.{shown_seen}
-use Rattle.h5w_several_scripts.specs.Scripts.{FileState, SetState, due, flushed_of, goes_on, settled_in, settled_set, takes, took_over}
-use Rattle.h5w_several_scripts.specs.Polled.{FilePolled, IsPolled, Places, readers_of}
-use Rattle.h5w_several_scripts.proofs.SetLemmas.{got_map}
+use Rattle.h5w_several_script_laws.specs.Scripts.{FileState, SetState, due, flushed_of, goes_on, settled_in, settled_set, takes, took_over}
+use Rattle.h5w_several_script_laws.specs.Polled.{FilePolled, IsPolled, Places, readers_of}
+use Rattle.h5w_several_script_laws.proofs.SetLemmas.{got_map}
 use Rattle.h5w_several_world_laws.specs.Worlds.{AreStatesOf, HaveOneFileLog, IsFileStateOf, IsStateOfPart, polling_in}
 use Rattle.h5w_several_world_laws.specs.Steps.{StepsTo}
 use Rattle.h5w_several_world_laws.specs.Takeovers.{ArePartsTaken, IsPartTaken, IsTakenFrom, TakeSteps}

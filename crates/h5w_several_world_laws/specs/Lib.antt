@@ -1,4 +1,4 @@
-pub use Rattle.h5w_several_scripts.specs.Scripts
+pub use Rattle.h5w_several_script_laws.specs.Scripts
 pub use Rattle.h5w_several_writer_laws.specs.Sessions
 pub use Rattle.h5w_several_writer_laws.specs.Standing
 pub mod Beginnings

@@ -11,8 +11,8 @@ use Rattle.h5w_script_laws.specs.Laws.{after_look, opening, reading, refreshing,
 use Rattle.h5w_script_laws.specs.Polling.{Wants}
 use Rattle.h5w_script_laws.specs.Scripts.{looked_now}
 use Rattle.h5w_several_writer_laws.specs.Sessions.{Sessions}
-use Rattle.h5w_several_scripts.specs.Scripts.{FileState, asks, says}
-use Rattle.h5w_several_scripts.specs.Polled.{Places, and_place}
+use Rattle.h5w_several_script_laws.specs.Scripts.{FileState, asks, says}
+use Rattle.h5w_several_script_laws.specs.Polled.{Places, and_place}
 use Rattle.h5w_several_world_laws.specs.Worlds.{HaveOneFileLog}
 use Rattle.h5w_several_world_laws.specs.Steps.{StepsTo}
 

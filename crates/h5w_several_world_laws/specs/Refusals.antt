@@ -6,8 +6,8 @@ use Rattle.h5w_space.specs.declared.Full.{Full}
 use Rattle.h5w_writer.specs.Sessions.{AreRows, Session, chunk_limit, chunks_with}
 use Rattle.h5w_several_writer_laws.specs.Sessions.{SameButHeld, Sessions, all_pending}
 use Rattle.h5w_several_writer.specs.Refusals.{NoPlaceAll}
-use Rattle.h5w_several_scripts.specs.Scripts.{FileState, asks, says}
-use Rattle.h5w_several_scripts.specs.Polled.{Places}
+use Rattle.h5w_several_script_laws.specs.Scripts.{FileState, asks, says}
+use Rattle.h5w_several_script_laws.specs.Polled.{Places}
 use Rattle.h5w_several_world_laws.specs.Worlds.{HaveOneFileLog}
 use Rattle.h5w_several_world_laws.specs.Steps.{StepsTo}
 

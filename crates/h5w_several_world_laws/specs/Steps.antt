@@ -7,8 +7,8 @@ use Rattle.h5w_model.specs.declared.reply.Reply.TheVariants as replies
 use Rattle.h5w_writer.specs.Refusals.{append_refusal}
 use Rattle.h5w_writer.specs.Sessions.{AreRows, Session, rows_of}
 use Rattle.h5w_several_writer_laws.specs.Sessions.{AfterPieceOf, AppendsTo, FlushesAll, SameButHeld, Sessions, all_pending, counts_of, stopped_all}
-use Rattle.h5w_several_scripts.specs.Scripts.{FileLine, FileReply, FileState, AllowedAll, asks, flushing_each, next_all, says, using, uses}
-use Rattle.h5w_several_scripts.specs.Polled.{Places}
+use Rattle.h5w_several_script_laws.specs.Scripts.{FileLine, FileReply, FileState, AllowedAll, asks, flushing_each, next_all, says, using, uses}
+use Rattle.h5w_several_script_laws.specs.Polled.{Places}
 use Rattle.h5w_several_world_laws.specs.Worlds.{HaveOneFileLog}
 
 -- the line may be given this reply, and the state after it fits the session that is left

@@ -4,8 +4,8 @@ use Rattle.h5w_model.specs.Several.{takes_over}
 use Rattle.h5w_writer.specs.Sessions.{Session}
 use Rattle.h5w_several_writer_laws.specs.Sessions.{Sessions}
 use Rattle.h5w_several_writer_laws.specs.Standing.{StandsAll, and_then}
-use Rattle.h5w_several_scripts.specs.Scripts.{FileState, flushed_of, goes_on, takes, took_over}
-use Rattle.h5w_several_scripts.specs.Polled.{Places}
+use Rattle.h5w_several_script_laws.specs.Scripts.{FileState, flushed_of, goes_on, takes, took_over}
+use Rattle.h5w_several_script_laws.specs.Polled.{Places}
 use Rattle.h5w_several_world_laws.specs.Worlds.{HaveOneFileLog, polling_in}
 use Rattle.h5w_several_world_laws.specs.Steps.{StepsTo}
 

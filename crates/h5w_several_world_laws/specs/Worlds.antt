@@ -8,8 +8,8 @@ use Rattle.h5w_reader.specs.Readers.{reader_rules}
 use Rattle.h5w_writer.specs.Sessions.{Session, chunk_limit, cutting_of}
 use Rattle.h5w_several_writer_laws.specs.Sessions.{Sessions, counts_of}
 use Rattle.h5w_several_writer_laws.specs.Standing.{StandsAll}
-use Rattle.h5w_several_scripts.specs.Scripts.{FileState, SetState, due}
-use Rattle.h5w_several_scripts.specs.Polled.{FilePolled, Places}
+use Rattle.h5w_several_script_laws.specs.Scripts.{FileState, SetState, due}
+use Rattle.h5w_several_script_laws.specs.Polled.{FilePolled, Places}
 use Rattle.h5w_several_world_laws.specs.Beginnings.{IsNewFor}
 
 -- the rules of the lines of a part, in a file of at most so many bytes, with so many attempts of a reader's call

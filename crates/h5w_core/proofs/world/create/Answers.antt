@@ -1,18 +1,6 @@
-use Rattle.std.proofs.Common.{ℕ, ap, length, arith, subst}
-use Rattle.h5w_writer.specs.Sessions.{Session}
-use Rattle.h5w_core.specs.Creation.{Creates}
-use Rattle.h5w_core.proofs.CreationLemmas.{begins}
 use Rattle.h5w_core.proofs.world.create.Goals as goal
 
-pub show_all-requires : goal.show_all-requires
-show_all-requires c =
-    let room = c.in_ok-make_room.ensures in
-    record { pieces = omega (arith, c.pending.ensures, room.pieces); end = omega (arith, c.end.ensures, room.end) }
-
-pub returns : goal.returns
-returns c =
-    let o = c.args.options.now in
-    let s = c.in_ok-session in
-    let room = c.in_ok-make_room.ensures in
-    let start = begins o s.session c.in_ok-image.image c.make_room.new.self c.requires s.ensures.session s.ensures.budget s.ensures.stands c.in_ok-image.ensures room.same (omega (arith, c.pending.ensures, room.pieces)) (omega (arith, c.end.ensures, room.end)) in
-    subst (λ (n : ℕ). Creates o n c.show_all.new.session c.show_all.new.image) (ap (λ (x : Session). length x.pending) s.ensures.session.session) (c.show_all.ensures o start)
+pub returns-in-Ok : goal.returns-in-Ok
+returns-in-Ok c =
+    let made = c.in_ok-session.ensures in
+    c.in-Ok.ensures c.args.options.now (record { are = c.requires; created = made.session; budget = made.budget; stands = made.stands })

@@ -1,7 +1,7 @@
 use Rattle.std.proofs.Common.{ℕ, ◌^◌, subst}
 use Rattle.h5w_creation_laws.specs.CreatedFiles.{CreatedFile, created_log}
 use Rattle.h5w_writer.specs.Creations.{IsCreated}
-use Rattle.h5w_form.specs.NewFiles.{new_file as file_of}
+use Rattle.h5w_creation.specs.NewFiles.{new_file as file_of}
 use Rattle.h5w_writer.specs.Stands.{Stands}
 use Rattle.h5w_make.specs.Commands.{new_file}
 use Rattle.h5w_make.proofs.BatchLemmas.{created_after}

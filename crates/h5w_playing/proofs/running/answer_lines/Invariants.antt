@@ -1,6 +1,6 @@
 use Rattle.std.proofs.Common.{◌≡◌, ◌≤◌, length, ◌+◌}
 use Rattle.h5w_input.specs.LinesAhead.{Stays, lines_ahead}
-use Rattle.h5w_several_scripts.specs.Scripts.{FileState}
+use Rattle.h5w_several_script_laws.specs.Scripts.{FileState}
 use Rattle.h5w_playing.proofs.PlayLemmas.{GoingWhole}
 use Rattle.h5w_playing.proofs.running.answer_lines.Given as goal
 

@@ -3,7 +3,7 @@ use Rattle.h5w_input.specs.Scripts.{script_line_of}
 use Rattle.h5w_input.specs.Words.{line_of_script}
 use Rattle.h5w_input.specs.declared.line.TextLine.TheVariants.{Whole}
 use Rattle.h5w_core.specs.Worlds.{rules_of}
-use Rattle.h5w_several_scripts.specs.Scripts.{asks, uses}
+use Rattle.h5w_several_script_laws.specs.Scripts.{asks, uses}
 use Rattle.h5w_playing.specs.Lines.{IsWithin, file_line_of, line_of_play}
 use Rattle.h5w_playing.specs.Ones.{spelling_of}
 use Rattle.h5w_playing.specs.declared.line.PlayLine.{PlayLine}

@@ -1,7 +1,7 @@
 use Rattle.std.proofs.Common.{[], ◌∷◌, refl, subst}
 use Rattle.h5w_model.specs.Lawful.{Rules, at_first}
 use Rattle.h5w_core.specs.Worlds.{rules_of}
-use Rattle.h5w_several_scripts.specs.Alone.{alone}
+use Rattle.h5w_several_script_laws.specs.Alone.{alone}
 use Rattle.h5w_playing.specs.Plays.{Plays}
 use Rattle.h5w_playing.specs.Starts.{spelling_for, state_for}
 use Rattle.h5w_several_playing.proofs.alone.play_alone.Goals as goal

@@ -51,7 +51,7 @@ invariant_of-self c =
     let vs = c.args.values.now in
     let tells : AppendTells i.session c.append.new.self vs c.append.result = record { added = e.added; rows = e.rows; stands = e.stands; bound = e.bound; over = e.over; refused = e.refused; kept = e.kept } in (
       append_hold i.session c.append.new.self i.image c.append.new.image i.attempts i.readers.items vs c.append.result (subst (λ (x : WorldView). AreRowsBy (rules_of x) vs) (sym c.self.view_is) c.requires) c.self.invariant.0 e.image tells e.room,
-      append_writing i.limit i.budget i.stopped i.session c.append.new.self i.image c.append.new.image i.attempts i.readers.items c.self.invariant.0 e.image c.self.invariant.1 vs c.append.result tells e.written,
+      append_writing i.session c.append.new.self i.image c.append.new.image i.attempts i.readers.items c.self.invariant.0 e.image c.self.invariant.1 vs c.append.result tells e.written,
     )
 
 pub append-requires : goal.append-requires

@@ -50,7 +50,7 @@ invariant_of-self c =
     let tells : FlushTells i.session c.flush.new.self c.flush.result =
     record { flushed = e.flushed; pieces = e.pieces; some = e.some; nothing = e.nothing; stands = e.stands; bound = e.bound; refused = e.refused; kept = e.kept; left = e.left } in (
       flush_hold i.session c.flush.new.self i.image c.flush.new.image i.attempts i.readers.items c.flush.result c.self.invariant.0 e.image tells e.room,
-      flush_writing i.limit i.budget i.stopped i.session c.flush.new.self i.image c.flush.new.image i.attempts i.readers.items c.self.invariant.0 e.image c.self.invariant.1 c.flush.result tells e.planned,
+      flush_writing i.session c.flush.new.self i.image c.flush.new.image i.attempts i.readers.items c.self.invariant.0 e.image c.self.invariant.1 c.flush.result tells e.planned,
     )
 
 pub returns-clause-logged : goal.returns-clause-logged

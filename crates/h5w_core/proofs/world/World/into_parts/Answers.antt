@@ -7,7 +7,7 @@ use Rattle.h5w_core.proofs.world.World.into_parts.Goals as goal
 pub returns-clause-parts : goal.returns-clause-parts
 returns-clause-parts c =
     let i = c.self.inside in
-    let parts : WorldParts = record { session = i.session; image = i.image; attempts = i.attempts; readers = i.readers; limit = i.limit; budget = i.budget } in
+    let parts : WorldParts = record { session = i.session; image = i.image; attempts = i.attempts; readers = i.readers } in
     subst (λ (w : WorldView). IsApart w parts) c.self.view_is (record {
       session = refl;
       bytes = refl;
@@ -15,7 +15,5 @@ returns-clause-parts c =
       attempts = refl;
       readers = refl;
       places = c.self.invariant.0.places;
-      limit = c.self.invariant.1.limited;
-      budget = c.self.invariant.1.budgeted;
       allowed = c.self.invariant.1.allowed;
     })

@@ -13,7 +13,7 @@ invariant_of-self c =
     let i = c.self.inside in
     let e = c.look.ensures in (
       look_hold i.session i.image i.attempts c.args.reader i.readers.items c.self.invariant.0 c.requires c.index_mut.result.now c.look.new.place c.index_mut.ensures.value c.look.new.image c.look.result e.image e.gives e.ended,
-      same_writing i.limit i.budget i.stopped i.session i.session i.image c.look.new.image e.image refl c.self.invariant.1,
+      same_writing i.session i.session i.image c.look.new.image e.image refl c.self.invariant.1,
     )
 
 pub returns-clause-steps : goal.returns-clause-steps

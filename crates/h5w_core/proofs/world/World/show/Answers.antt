@@ -12,7 +12,7 @@ invariant_of-self c =
     let e = c.show-pieces.ensures in
     let shown : ShowsCount i.session c.show-pieces.new.session i.image c.show-pieces.new.image c.show-pieces.result = record { nothing = e.nothing; piece = e.piece; stands = e.stands } in (
       show_hold i.session c.show-pieces.new.session i.image c.show-pieces.new.image i.attempts c.show-pieces.result i.readers.items c.self.invariant.0 shown e.room,
-      show_writing i.limit i.budget i.stopped i.session c.show-pieces.new.session i.image c.show-pieces.new.image c.show-pieces.result shown c.self.invariant.1,
+      show_writing i.session c.show-pieces.new.session i.image c.show-pieces.new.image c.show-pieces.result shown c.self.invariant.1,
     )
 
 pub returns-clause-steps : goal.returns-clause-steps

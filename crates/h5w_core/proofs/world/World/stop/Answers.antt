@@ -9,7 +9,7 @@ pub invariant_of-self : goal.invariant_of-self
 invariant_of-self c =
     let i = c.self.inside in (
       stop_hold i.session c.stop.new.self i.image i.attempts i.readers.items c.self.invariant.0 c.stop.ensures.session c.stop.ensures.stands,
-      stop_writing i.limit i.budget i.stopped i.session c.stop.new.self i.image c.stop.ensures.session c.self.invariant.1,
+      stop_writing i.session c.stop.new.self i.image c.stop.ensures.session c.self.invariant.1,
     )
 
 pub returns-clause-steps : goal.returns-clause-steps

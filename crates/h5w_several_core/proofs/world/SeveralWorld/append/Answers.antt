@@ -2,10 +2,10 @@ use Rattle.std.proofs.Common.{◌≡◌, ◌∙◌, ℤ, Ok, Err, ap, refl, rule
 use Rattle.std.specs.Int.{w128}
 use Rattle.h5w_model.specs.declared.reply.Reply.TheVariants as replies
 use Rattle.h5w_writer.specs.declared.refusal.AppendError.TheVariants as errors
-use Rattle.h5w_several_scripts.specs.Scripts.{says}
+use Rattle.h5w_several_script_laws.specs.Scripts.{says}
 use Rattle.h5w_several_core.specs.Worlds.{FileSteps, pollings_of}
 use Rattle.h5w_several_core.specs.declared.events.FileEvent.TheVariants as events
-use Rattle.h5w_several_core.proofs.AppendLemmas.{AppendTells, added_steps, added_within, all_hold, all_kept, all_polls, all_stops, never_past, refused_busy, refused_full, refused_outside, refused_stopped, rows_all, rows_inside, wants_memory}
+use Rattle.h5w_several_core.proofs.AppendLemmas.{AppendTells, added_steps, added_within, all_hold, all_kept, all_polls, never_past, refused_busy, refused_full, refused_outside, refused_stopped, rows_all, rows_inside, wants_memory}
 use Rattle.h5w_several_core.proofs.KeptLemmas.{kept_by}
 use Rattle.h5w_several_core.proofs.MachineLemmas.{world_of}
 use Rattle.h5w_several_core.proofs.world.SeveralWorld.append.Goals as goal
@@ -60,10 +60,9 @@ invariant_of-self c =
     let i = c.self.inside in
     let e = c.append.ensures in
     let tells : AppendTells i.session c.append.new.self c.args.dataset c.args.values.now c.append.result = record { added = e.added; rows = e.rows; stands = e.stands; within = e.within; refused = e.refused; causes = e.causes; kept = e.kept } in
-    let polls = all_polls i.session i.image i.attempts i.places.items c.args.self.now c.args.dataset c.args.values.now c.self.view_is c.requires c.append.new.self c.append.new.image e.image c.append.result tells in
-    let stops = all_stops i.session i.image i.attempts i.places.items c.args.self.now c.args.dataset c.args.values.now c.self.view_is c.requires c.append.new.self c.append.new.image e.image c.append.result tells in (
+    let polls = all_polls i.session i.image i.attempts i.places.items c.args.self.now c.args.dataset c.args.values.now c.self.view_is c.requires c.append.new.self c.append.new.image e.image c.append.result tells in (
       all_hold i.session i.image i.attempts i.places.items c.args.self.now c.args.dataset c.args.values.now c.self.view_is c.requires c.append.new.self c.append.new.image e.image c.append.result tells c.self.invariant.0 e.room,
-      kept_by i.session c.append.new.self i.image c.append.new.image i.attempts i.limit i.budget i.stopped i.stopped i.places.items i.places.items c.self.invariant.0 (polls ∙ sym (ap pollings_of c.self.view_is)) (stops ∙ c.self.invariant.1.stops) c.self.invariant.1,
+      kept_by i.session c.append.new.self i.image c.append.new.image i.attempts i.places.items i.places.items c.self.invariant.0 (polls ∙ sym (ap pollings_of c.self.view_is)) c.self.invariant.1,
     )
 
 pub returns-clause-polls : goal.returns-clause-polls

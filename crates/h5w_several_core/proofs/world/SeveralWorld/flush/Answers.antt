@@ -1,7 +1,7 @@
 use Rattle.std.proofs.Common.{◌∙◌, Ok, Err, ap, sym}
 use Rattle.h5w_writer.specs.declared.refusal.FlushError.TheVariants as errors
 use Rattle.h5w_several_core.specs.Worlds.{pollings_of}
-use Rattle.h5w_several_core.proofs.FlushLemmas.{FlushTells, all_held, all_hold, all_polls, all_stops, busy_steps, full_steps, full_told, memory_free, planned_steps, stopped_steps}
+use Rattle.h5w_several_core.proofs.FlushLemmas.{FlushTells, all_held, all_hold, all_polls, busy_steps, full_steps, full_told, memory_free, planned_steps, stopped_steps}
 use Rattle.h5w_several_core.proofs.KeptLemmas.{kept_by}
 use Rattle.h5w_several_core.proofs.world.SeveralWorld.flush.Goals as goal
 use Rattle.h5w_several_core.proofs.world.SeveralWorld.flush.Goals.{in-Ok, in-Err-Stopped, in-Err-Busy, in-Err-Space, in-Err-Deep, in-Err-OutOfMemory}
@@ -39,10 +39,9 @@ invariant_of-self c =
     let i = c.self.inside in
     let e = c.flush.ensures in
     let tells : FlushTells i.session c.flush.new.self c.flush.result = record { flushed = e.flushed; counts = e.counts; stands = e.stands; left = e.left; refused = e.refused; causes = e.causes; kept = e.kept } in
-    let polls = all_polls i.session i.image i.attempts i.places.items c.args.self.now c.self.view_is c.flush.new.self c.flush.new.image e.image c.flush.result tells in
-    let stops = all_stops i.session i.image i.attempts i.places.items c.args.self.now c.self.view_is c.flush.new.self c.flush.new.image e.image c.flush.result tells in (
+    let polls = all_polls i.session i.image i.attempts i.places.items c.args.self.now c.self.view_is c.flush.new.self c.flush.new.image e.image c.flush.result tells in (
       all_hold i.session i.image i.attempts i.places.items c.args.self.now c.self.view_is c.flush.new.self c.flush.new.image e.image c.flush.result tells c.self.invariant.0 e.room,
-      kept_by i.session c.flush.new.self i.image c.flush.new.image i.attempts i.limit i.budget i.stopped i.stopped i.places.items i.places.items c.self.invariant.0 (polls ∙ sym (ap pollings_of c.self.view_is)) (stops ∙ c.self.invariant.1.stops) c.self.invariant.1,
+      kept_by i.session c.flush.new.self i.image c.flush.new.image i.attempts i.places.items i.places.items c.self.invariant.0 (polls ∙ sym (ap pollings_of c.self.view_is)) c.self.invariant.1,
     )
 
 pub returns-clause-polls : goal.returns-clause-polls

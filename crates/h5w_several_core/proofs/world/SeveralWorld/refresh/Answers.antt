@@ -1,5 +1,5 @@
 use Rattle.std.proofs.Common.{ap, slice_set, subst}
-use Rattle.h5w_several_scripts.specs.Scripts.{says}
+use Rattle.h5w_several_script_laws.specs.Scripts.{says}
 use Rattle.h5w_several_core.specs.Worlds.{FileSteps, SeveralView, pollings_of}
 use Rattle.h5w_several_core.specs.declared.events.FileEvent.TheVariants as events
 use Rattle.h5w_several_core.proofs.MachineLemmas.{world_of}

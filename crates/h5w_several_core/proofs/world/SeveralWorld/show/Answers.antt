@@ -1,11 +1,11 @@
 use Rattle.std.proofs.Common.{◌∙◌, ap, subst}
 use Rattle.h5w_model.specs.declared.reply.Reply.TheVariants as replies
-use Rattle.h5w_several_scripts.specs.Scripts.{says}
+use Rattle.h5w_several_script_laws.specs.Scripts.{says}
 use Rattle.h5w_several_core.specs.Worlds.{FileSteps, SeveralView, pollings_of}
 use Rattle.h5w_several_core.specs.declared.events.FileEvent.TheVariants as events
 use Rattle.h5w_several_core.proofs.KeptLemmas.{kept_by}
 use Rattle.h5w_several_core.proofs.MachineLemmas.{world_of}
-use Rattle.h5w_several_core.proofs.ShowLemmas.{ShowsCount, show_hold, show_polls, show_steps, show_stops}
+use Rattle.h5w_several_core.proofs.ShowLemmas.{ShowsCount, show_hold, show_polls, show_steps}
 use Rattle.h5w_several_core.proofs.world.SeveralWorld.show.Goals as goal
 
 pub invariant_of-self : goal.invariant_of-self
@@ -14,10 +14,9 @@ invariant_of-self c =
     let p = c.show-pieces in
     let e = p.ensures in
     let shown : ShowsCount i.session p.new.session i.image p.new.image p.result = record { nothing = e.nothing; piece = e.piece; parts = e.parts; stands = e.stands } in
-    let polls = show_polls i.session p.new.session i.image p.new.image i.attempts p.result c.pending.result i.places.items shown c.pending.ensures in
-    let stops = show_stops i.session p.new.session i.image p.new.image i.attempts p.result c.pending.result i.places.items shown c.pending.ensures in (
+    let polls = show_polls i.session p.new.session i.image p.new.image i.attempts p.result c.pending.result i.places.items shown c.pending.ensures in (
       show_hold i.session p.new.session i.image p.new.image i.attempts p.result c.pending.result i.places.items shown c.pending.ensures c.self.invariant.0 e.room,
-      kept_by i.session p.new.session i.image p.new.image i.attempts i.limit i.budget i.stopped i.stopped i.places.items i.places.items c.self.invariant.0 polls (stops ∙ c.self.invariant.1.stops) c.self.invariant.1,
+      kept_by i.session p.new.session i.image p.new.image i.attempts i.places.items i.places.items c.self.invariant.0 polls c.self.invariant.1,
     )
 
 pub returns-clause-steps : goal.returns-clause-steps

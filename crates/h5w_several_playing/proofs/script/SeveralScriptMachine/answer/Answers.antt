@@ -1,7 +1,7 @@
 use Rattle.std.proofs.Common.{◌≡◌, ◌∙◌, ◌+◌, ◌<◌, Some, ap, arith, subst, sym}
 use Rattle.h5w_input.specs.Words.{line_of_script}
 use Rattle.h5w_input.specs.declared.line.TextLine.TheVariants.{Whole}
-use Rattle.h5w_several_scripts.specs.Scripts.{asks, takes, uses}
+use Rattle.h5w_several_script_laws.specs.Scripts.{asks, takes, uses}
 use Rattle.h5w_playing.specs.Lines.{IsWithin, file_line_of, line_of_play}
 use Rattle.h5w_playing.specs.declared.line.PlayLine.{PlayLine}
 use Rattle.h5w_playing.proofs.LineLemmas.{long_is_none}
