@@ -15,7 +15,7 @@ use Rattle.h5w_laws.proofs.LogLemmas.{flushed_begins, length_hist, position_laws
 use Rattle.h5w_creation_laws.specs.CreatedFiles.{CreatedFile, created_writes, described_of}
 use Rattle.h5w_writer.specs.Loads.{NoPlace}
 use Rattle.h5w_writer.specs.Refusals.{IsFullFor, IsSpace, append_refusal, chunks_refusal, flush_refusal}
-use Rattle.h5w_writer.specs.Sessions.{AddsValues, AfterPiece, AreRows, IsNamed, Session, Settles, TakesRows, chunks_with, rows_of, with_rows}
+use Rattle.h5w_writer.specs.Sessions.{AddsValues, AfterPiece, AreRows, IsNamed, Session, TakesRows, chunks_with, rows_of, with_rows}
 use Rattle.h5w_writer.specs.Stands.{Stands}
 use Rattle.h5w_writer.specs.declared.refusal.AppendError.{AppendError}
 use Rattle.h5w_writer.specs.declared.refusal.AppendError.TheVariants as errors
@@ -28,13 +28,17 @@ use Rattle.h5w_space.specs.declared.Full.{Full}
 use Rattle.h5w_shared.specs.Seats.{ImageId, SeatView}
 use Rattle.h5w_live_laws.specs.Lines.{rows_told}
 use Rattle.h5w_live_laws.proofs.LineLemmas.{agree_more, tells_more, values_more}
-use Rattle.h5w_live.specs.Writing.{HasAppended, HasFlushed, HasRoom, HasWritten, LacksPlace, StaysSeated, Writes, batch_refusal, cutting_for, too_many}
+use Rattle.h5w_live.specs.Writing.{HaltsAppend, HaltsFlush, HasAppended, HasFlushed, HasRoom, HasWritten, LacksPlace, Refuses, StaysSeated, Writes, append_halt, batch_refusal, cutting_for, flush_halt, too_many}
+use Rattle.h5w_live.specs.declared.writing.Halt.{Halt}
+use Rattle.h5w_live.specs.declared.writing.Halt.TheVariants as halts
 use Rattle.h5w_reader_laws.specs.Showing.{showing}
 use Rattle.h5w_live.proofs.RowLemmas.{batches_more, rows_in_values, some_rows}
-use Rattle.h5w_live.proofs.WritingLemmas.{Shown, after_flush, is_new, put_behind, shown_stays}
+use Rattle.h5w_live.proofs.WritingLemmas.{is_new, put_behind}
 use Rattle.h5w_live.proofs.FlushedLemmas.{before_last, flushed_level, pieces_last, rows_all, rows_last}
 use Rattle.h5w_reader_laws.proofs.ShowingLemmas.{appended_showing, flushed_showing, hist_showing}
-use Rattle.h5w_writer_laws.proofs.PieceLemmas.{after_pending, none_some}
+use Rattle.h5w_writer_laws.specs.Leaves.{PieceLeaves}
+use Rattle.h5w_writer_laws.proofs.LeavingLemmas.{piece_leaves}
+use Rattle.h5w_writer_laws.proofs.PieceLemmas.{none_some}
 
 -- what is not too many is few
 few_of : (f : CreatedFile) (rows : ℕ) → too_many f rows ≡ None → needed_chunks (cutting_for f) rows ≤ limit_of format_limits f.index
@@ -169,12 +173,11 @@ module _ (f : CreatedFile) (most : ℕ) (done : List (List ℤ)) (s : Session) (
         ap (λ (d : Described). d.shape.rows) takes.dataset
         ∙ (let e : rows_of s1 ≡ s.dataset.shape.rows + rows.0 = omega (arith, ap (λ (d : Described). d.shape.rows) a.dataset, a.waits, h.waits, counted (x ∷ xs) rows) in e)
 
-    pub facts : Shown s2 s3
-    facts = shown_stays s2 s3 [] after
+    pub facts : PieceLeaves s2 [] s3
+    facts = piece_leaves s2 s3 [] after
 
-    -- all pieces of the flush are visible
-    pub settles : Settles true s2 s3
-    settles = after_flush s2 s3 (takes.flushing (waits_some s1 v1 (x ∷ xs) early rows a (omega arith))) after
+    is_flushing : s2.flushing ≡ true
+    is_flushing = takes.flushing (waits_some s1 v1 (x ∷ xs) early rows a (omega arith))
 
     pub dataset_is : s3.dataset ≡ with_rows s3.dataset.shape.rows (described_of f)
     dataset_is =
@@ -218,7 +221,7 @@ module _ (f : CreatedFile) (most : ℕ) (done : List (List ℤ)) (s : Session) (
         (few_of f ((length (values_in done) + length (x ∷ xs)) / f.columns) few)
 
     committed_is : s3.committed ≡ s2.dataset.shape.rows
-    committed_is = ap (λ (t : Session). t.committed) settles.1
+    committed_is = facts.brings is_flushing refl
 
     line_rows : line.rows ≡ s.dataset.shape.rows + rows.0
     line_rows = rows_are ∙ committed_is ∙ all_rows
@@ -246,14 +249,14 @@ module _ (f : CreatedFile) (most : ℕ) (done : List (List ℤ)) (s : Session) (
       rows = length_values done (x ∷ xs) ∙ rows_with (x ∷ xs) rows ∙ ap (λ (n : ℕ). n * f.columns) (sym now_rows);
       few = few_rows;
       waits = facts.waits ∙ takes.waits;
-      pending = after_pending s2 s3 [] after;
-      settled = ap (λ (t : Session). t.flushing) settles.1;
+      pending = facts.pending;
+      settled = facts.idle refl;
       committed = committed_is ∙ sym (ap (λ (d : Described). d.shape.rows) facts.dataset);
       going = facts.stopped ∙ takes.stopped ∙ a.stopped ∙ h.going;
       flags = ap (λ (r : Super). r.flags) (facts.root ∙ takes.root) ∙ ap (λ (r : Super). r.flags) a.root ∙ h.flags;
       limit = facts.limit ∙ takes.limit ∙ a.limit ∙ h.limit;
       room = record {
-        pieces = omega (arith, room.pieces, wrote.pieces, ap length (after_pending s2 s3 [] after));
+        pieces = omega (arith, room.pieces, wrote.pieces, ap length facts.pending);
         end = omega (arith, room.end, wrote.end, facts.end);
       };
       appended = appended_is;
@@ -271,14 +274,41 @@ pub accepted_none : (o : Option AppendError) (r : Result ℕ AppendError) (n : �
 accepted_none None r n ok refused = refl
 accepted_none (Some e) r n ok refused = let both : ◌≡◌ {A = Result ℕ AppendError} (Ok n) (Err e) = sym ok ∙ refused e refl in absurd cc
 
--- nothing else refuses a flush that may be planned
-pub no_other : (o : Option FlushError) (e : FlushError) → o ≡ None → (o ≡ Some e) ⊎ (IsSpace e ⊎ ((e ≡ flushing.Deep) ⊎ ((e ≡ flushing.Failed) ⊎ (e ≡ flushing.OutOfMemory)))) → ((full : Full) → e ≡ flushing.Space full → ⊥)
-    → (e ≡ flushing.Deep → ⊥) → (e ≡ flushing.Failed → ⊥) → (e ≡ flushing.OutOfMemory → ⊥) → ⊥
-no_other o e none (inl h) space deep failed memory = none_some e (sym none ∙ h)
-no_other o e none (inr (inl h)) space deep failed memory = space h.0 h.1
-no_other o e none (inr (inr (inl h))) space deep failed memory = deep h
-no_other o e none (inr (inr (inr (inl h)))) space deep failed memory = failed h
-no_other o e none (inr (inr (inr (inr h)))) space deep failed memory = memory h
+-- what refuses a flush that may be planned, over a file that the session created
+pub plan_refused : (o : Option FlushError) (e : FlushError) → o ≡ None → (o ≡ Some e) ⊎ (IsSpace e ⊎ ((e ≡ flushing.Deep) ⊎ ((e ≡ flushing.Failed) ⊎ (e ≡ flushing.OutOfMemory)))) → (e ≡ flushing.Deep → ⊥)
+    → IsSpace e ⊎ ((e ≡ flushing.Failed) ⊎ (e ≡ flushing.OutOfMemory))
+plan_refused o e none (inl h) deep = absurd (none_some e (sym none ∙ h))
+plan_refused o e none (inr (inl h)) deep = inl h
+plan_refused o e none (inr (inr (inl h))) deep = absurd (deep h)
+plan_refused o e none (inr (inr (inr h))) deep = inr h
+
+-- and nothing else does
+pub no_other : (e : FlushError) → IsSpace e ⊎ ((e ≡ flushing.Failed) ⊎ (e ≡ flushing.OutOfMemory)) → ((full : Full) → e ≡ flushing.Space full → ⊥) → (e ≡ flushing.Failed → ⊥) → (e ≡ flushing.OutOfMemory → ⊥) → ⊥
+no_other e (inl h) space failed memory = space h.0 h.1
+no_other e (inr (inl h)) space failed memory = failed h
+no_other e (inr (inr h)) space failed memory = memory h
+
+-- why values are not appended, by the session's error
+pub append_halts : (s : Session) (values : List ℤ) (e : AppendError) → (append_refusal s values ≡ Some e) ⊎ ((e ≡ errors.Failed) ⊎ (e ≡ errors.OutOfMemory)) → HaltsAppend s values (append_halt e)
+append_halts s values errors.Stopped causes = tt
+append_halts s values (errors.Busy pending) causes = tt
+append_halts s values (errors.OutOfRange index value) (inl h) = h
+append_halts s values (errors.OutOfRange index value) (inr (inl h)) = absurd cc
+append_halts s values (errors.OutOfRange index value) (inr (inr h)) = absurd cc
+append_halts s values (errors.Chunks chunks limit) (inl h) = h
+append_halts s values (errors.Chunks chunks limit) (inr (inl h)) = absurd cc
+append_halts s values (errors.Chunks chunks limit) (inr (inr h)) = absurd cc
+append_halts s values errors.Failed causes = tt
+append_halts s values errors.OutOfMemory causes = tt
+
+-- why a flush is not planned
+pub flush_halts : (s : Session) (e : FlushError) → ((full : Full) → e ≡ flushing.Space full → IsFullFor s full) → ((full : Full) → e ≡ flushing.Space full → (log : Log) → Stands s log → NoPlace s log full) → HaltsFlush s (flush_halt e)
+flush_halts s flushing.Stopped full none = tt
+flush_halts s (flushing.Busy pending) full none = tt
+flush_halts s (flushing.Space space) full none = (full space refl, none space refl)
+flush_halts s flushing.Deep full none = tt
+flush_halts s flushing.Failed full none = tt
+flush_halts s flushing.OutOfMemory full none = tt
 
 -- no batch is refused for what is pending
 abbrev IsOfValues : Option AppendError → Type 0
@@ -441,3 +471,24 @@ lacks_place f most done s v lines values early t x full h a full_for none =
       full_for = full_for;
       lacks = none;
     }
+
+-- ---- Why a batch is not put
+
+-- its values are not appended
+pub append_refuses : (f : CreatedFile) (most : ℕ) (done : List (List ℤ)) (s : Session) (v : SeatView) (lines : List FlushLine) → HasFlushed f most done s v lines → (values : List ℤ) → AreRows s values → 1 ≤ length values → (e : Halt) → HaltsAppend s values e
+    → Refuses f most done values e
+append_refuses f most done s v lines h values rows some (halts.OutOfRange index value) refused = sym (refusal_for f most done s v lines h values rows some) ∙ refused
+append_refuses f most done s v lines h values rows some (halts.Chunks chunks limit) refused = sym (refusal_for f most done s v lines h values rows some) ∙ refused
+append_refuses f most done s v lines h values rows some (halts.Space full) refused = absurd refused
+append_refuses f most done s v lines h values rows some halts.Failed refused = tt
+append_refuses f most done s v lines h values rows some halts.OutOfMemory refused = tt
+
+-- their flush is not planned
+pub flush_refuses : (f : CreatedFile) (most : ℕ) (done : List (List ℤ)) (s : Session) (v : SeatView) (lines : List FlushLine) → HasFlushed f most done s v lines → (values : List ℤ) → AreRows s values → 1 ≤ length values → append_refusal s values ≡ None
+    → (early : List Write) (t : Session) (x : SeatView) → HasAppended values early s t v x → (e : Halt) → HaltsFlush t e → Refuses f most done values e
+flush_refuses f most done s v lines h values rows some accepted early t x a (halts.OutOfRange index value) refused = absurd refused
+flush_refuses f most done s v lines h values rows some accepted early t x a (halts.Chunks chunks limit) refused = absurd refused
+flush_refuses f most done s v lines h values rows some accepted early t x a (halts.Space full) refused =
+    (sym (refusal_for f most done s v lines h values rows some) ∙ accepted, lacks_place f most done s v lines values early t x full h a refused.0 refused.1)
+flush_refuses f most done s v lines h values rows some accepted early t x a halts.Failed refused = tt
+flush_refuses f most done s v lines h values rows some accepted early t x a halts.OutOfMemory refused = tt

@@ -20,12 +20,11 @@ use Rattle.h5w_shared.specs.Seats.{HasMadeRoom, ImageId, SeatView}
 use Rattle.h5w_live.specs.Reports.{before_close}
 use Rattle.h5w_live.specs.Writing.{HasClosed, HasFlushed, HasRoom, HasWritten}
 use Rattle.h5w_reader_laws.specs.Showing.{showing}
-use Rattle.h5w_live.proofs.WritingLemmas.{after_early, shown_stays}
 use Rattle.h5w_live.proofs.FlushedLemmas.{flushed_level, rows_all}
 use Rattle.h5w_live.proofs.BatchLemmas.{log_rows, rows_flushed}
 use Rattle.h5w_live.proofs.RowLemmas.{none_needed, rows_in_values}
 use Rattle.h5w_reader_laws.proofs.ShowingLemmas.{appended_showing, events_among, flushed_showing, hist_showing}
-use Rattle.h5w_writer_laws.proofs.PieceLemmas.{after_pending}
+use Rattle.h5w_writer_laws.proofs.LeavingLemmas.{piece_leaves}
 
 -- ---- The creation
 
@@ -55,11 +54,11 @@ created_flushed f most s t v w by made stood start none room after wrote stands 
     let is = made.session in
     let pending : s.pending ≡ created_writes f = ap (λ (x : Session). x.pending) is in
     let es : List Happening = showing (created_writes f) [] in
-    let facts = shown_stays s t [] after in
+    let facts = piece_leaves s t [] after in
     let settled : s.flushing ≡ false = ap (λ (x : Session). x.flushing) is in
-    let only : t ≡ record s { pending = [] } = after_early s t settled after in
+    let only : t ≡ record s { pending = [] } = facts.still settled in
     let seen : w.seen ≡ created_writes f = wrote.seen ∙ ap (λ (l : List Write). l ++ s.pending) none ∙ pending in
-    let left : t.pending ≡ [] = after_pending s t [] after in
+    let left : t.pending ≡ [] = facts.pending in
     let count : length (hist es) ≡ length (created_writes f) = ap length (hist_showing (created_writes f) []) in
     let dataset : t.dataset ≡ described_of f = facts.dataset ∙ ap (λ (x : Session). x.dataset) is in
     let no_rows : t.dataset.shape.rows ≡ 0 = ap (λ (d : Described). d.shape.rows) dataset in
@@ -115,8 +114,8 @@ closed_last s t v w is wrote =
 pub closed_after : (f : CreatedFile) (most : ℕ) (done : List (List ℤ)) (s t u : Session) (v w : SeatView) (lines : List FlushLine) → HasFlushed f most done s v lines → t ≡ closed_of s → super_at (super_bytes (closed_root s)) ≡ Ok (closed_root s)
     → ((log : Log) → Stands s log → Stands t log) → AfterPiece t [] u → HasWritten t.pending v w → ((log : Log) → Stands t log → Stands u (record log { events = showing t.pending log.events })) → HasClosed f done u w lines
 closed_after f most done s t u v w lines h is reads stands1 after wrote stands2 =
-    let facts = shown_stays t u [] after in
-    let only : u ≡ record t { pending = [] } = after_early t u (ap (λ (y : Session). y.flushing) is ∙ h.settled) after in
+    let facts = piece_leaves t u [] after in
+    let only : u ≡ record t { pending = [] } = facts.still (ap (λ (y : Session). y.flushing) is ∙ h.settled) in
     let x : Write = record { at = 0; piece = super_bytes (closed_root s) } in
     let pending : t.pending ≡ x ∷ [] = ap (λ (y : Session). y.pending) is in
     let es : List Happening = shows x ∷ h.writes.log.events in
@@ -134,7 +133,7 @@ closed_after f most done s t u v w lines h is reads stands1 after wrote stands2 
         dataset = dataset ∙ h.writes.dataset ∙ ap (λ (d : Described). with_rows d.shape.rows (described_of f)) (sym dataset);
       };
       stopped = facts.stopped ∙ ap (λ (y : Session). y.stopped) is;
-      pending = after_pending t u [] after;
+      pending = facts.pending;
       batches = h.batches;
       rows = h.rows ∙ ap (λ (n : ℕ). n * f.columns) (sym (ap (λ (y : Session). y.committed) only ∙ ap (λ (y : Session). y.committed) is ∙ h.committed));
       appended = h.appended;

@@ -1,13 +1,13 @@
 pub mod RowLemmas
-pub mod WritingLemmas
-pub mod FlushedLemmas
-pub mod BatchLemmas
-pub mod EndLemmas
-pub mod WriterLemmas
-pub mod RunLemmas
-pub mod ReaderLemmas
-pub mod ReportLemmas
-pub mod MeetLemmas
-pub mod JoinLemmas
-pub mod Sent
-pub mod SecondLemmas
+mod WritingLemmas
+mod FlushedLemmas
+mod BatchLemmas
+mod EndLemmas
+mod WriterLemmas
+mod RunLemmas
+mod ReaderLemmas
+mod ReportLemmas
+mod MeetLemmas
+mod JoinLemmas
+mod Sent
+mod SecondLemmas

@@ -52,16 +52,6 @@ empty_flushed f most done values s v lines none h = subst (λ (vs : List ℤ). H
     same : values_in (done ++ [] ∷ []) ≡ values_in done
     same = values_more done [] ∙ append-nil (values_in done)
 
--- why a batch was not flushed
-pub refuses : (f : CreatedFile) (most : ℕ) (done : List (List ℤ)) (values : List ℤ) (e : Halt) → ((index : ℕ) (value : ℤ) → e ≡ halts.OutOfRange index value → batch_refusal f (length (values_in done)) values ≡ Some (errors.OutOfRange index value))
-    → ((chunks limit : ℕ) → e ≡ halts.Chunks chunks limit → batch_refusal f (length (values_in done)) values ≡ Some (errors.Chunks chunks limit))
-    → ((full : Full) → e ≡ halts.Space full → (batch_refusal f (length (values_in done)) values ≡ None) × LacksPlace f most done values full) → Refuses f most done values e
-refuses f most done values (halts.OutOfRange index value) range chunks space = range index value refl
-refuses f most done values (halts.Chunks n limit) range chunks space = chunks n limit refl
-refuses f most done values (halts.Space full) range chunks space = space full refl
-refuses f most done values halts.Failed range chunks space = tt
-refuses f most done values halts.OutOfMemory range chunks space = tt
-
 -- ---- One behind another
 
 some_none : {A : Type 0} (a : A) → ◌≡◌ {A = Option A} (Some a) None → ⊥

@@ -6,14 +6,15 @@ use Rattle.h5w_model.specs.Logs.{Happening, Log, and_now, appends, hist, plans, 
 use Rattle.h5w_model.specs.declared.piece.Write.{Write}
 use Rattle.h5w_creation_laws.specs.CreatedFiles.{CreatedFile, described_of}
 use Rattle.h5w_writer.specs.Past.{IsNew}
-use Rattle.h5w_writer.specs.Sessions.{AfterPiece, Session, Settles, stopped_of, with_rows}
+use Rattle.h5w_writer.specs.Sessions.{AfterPiece, Session, stopped_of, with_rows}
 use Rattle.h5w_writer.specs.Stands.{Stands}
 use Rattle.h5w_image.specs.View.{Same}
 use Rattle.h5w_shared.specs.Seats.{FailedSeat, ImageId, SeatView, seen_through}
 use Rattle.h5w_shared.proofs.ThreadLemmas.{through_seats}
 use Rattle.h5w_live.specs.Writing.{ArePut, HasPlaces, HasWritten, StaysSeated, Writes}
 use Rattle.h5w_reader_laws.specs.Showing.{showing}
-use Rattle.h5w_writer_laws.proofs.PieceLemmas.{after_pending, freed_end, freed_limit, onward}
+use Rattle.h5w_writer_laws.proofs.LeavingLemmas.{piece_leaves}
+use Rattle.h5w_writer_laws.proofs.PieceLemmas.{after_pending, onward}
 
 -- ---- Events
 
@@ -33,56 +34,6 @@ put_empty before now ((x ∷ xs) ∷ bs) h = (h.0, h.1, put_empty (showing h.1 (
 -- its log is a new file's
 pub is_new : (f : CreatedFile) (s : Session) (v : SeatView) (w : Writes f s v) → IsNew w.log
 is_new f s v w = record { file = f; is = w.is; log_is = w.new }
-
--- ---- After a piece
-
--- what stays of a session while its pieces become visible
-pub record Shown (s t : Session) : Type 0 where
-  pub name : t.name ≡ s.name
-  pub root : t.root ≡ s.root
-  pub dataset : t.dataset ≡ s.dataset
-  pub waits : t.waits ≡ s.waits
-  pub stopped : t.stopped ≡ s.stopped
-  pub end : t.places.end ≡ s.places.end
-  pub limit : t.places.limit ≡ s.places.limit
-
--- only what is pending changed
-left_shown : (s t : Session) (ws : List Write) → t ≡ record s { pending = ws } → Shown s t
-left_shown s t ws is = record {
-  name = ap (λ (x : Session). x.name) is;
-  root = ap (λ (x : Session). x.root) is;
-  dataset = ap (λ (x : Session). x.dataset) is;
-  waits = ap (λ (x : Session). x.waits) is;
-  stopped = ap (λ (x : Session). x.stopped) is;
-  end = ap (λ (x : Session). x.places.end) is;
-  limit = ap (λ (x : Session). x.places.limit) is;
-}
-
-settled_shown : (b : Bool) (s t : Session) → Settles b s t → Shown s t
-settled_shown true s t after =
-    let is = after.1 in
-    record {
-      name = ap (λ (x : Session). x.name) is;
-      root = ap (λ (x : Session). x.root) is;
-      dataset = ap (λ (x : Session). x.dataset) is;
-      waits = ap (λ (x : Session). x.waits) is;
-      stopped = ap (λ (x : Session). x.stopped) is;
-      end = freed_end s.keeps s.places t.places after.0;
-      limit = freed_limit s.keeps s.places t.places after.0;
-    }
-settled_shown false s t is = left_shown s t [] is
-
-pub shown_stays : (s t : Session) (ws : List Write) → AfterPiece s ws t → Shown s t
-shown_stays s t [] after = settled_shown s.flushing s t after
-shown_stays s t (w ∷ ws) is = left_shown s t (w ∷ ws) is
-
--- all pieces of a flush became visible
-pub after_flush : (s t : Session) → s.flushing ≡ true → AfterPiece s [] t → Settles true s t
-after_flush s t flushing after = subst (λ (b : Bool). Settles b s t) flushing after
-
--- or of no flush
-pub after_early : (s t : Session) → s.flushing ≡ false → AfterPiece s [] t → t ≡ record s { pending = [] }
-after_early s t settled after = subst (λ (b : Bool). Settles b s t) settled after
 
 -- ---- The pieces of a plan
 
@@ -116,7 +67,7 @@ shows_next s t n v u x w ws so is after wrote stands =
     let seen : x.seen ≡ u.seen ++ w ∷ [] = ap (λ (y : SeatView). y.seen) wrote in
     let pieces : x.pieces ≡ u.pieces - 1 = ap (λ (y : SeatView). y.pieces) wrote in
     let ends : x.end ≡ u.end = ap (λ (y : SeatView). y.end) wrote in
-    let same = shown_stays t n ws after in
+    let same = piece_leaves t n ws after in
     let one : length (w ∷ ws) ≡ length ws + 1 = omega arith in
     let count : length t.pending ≡ length n.pending + 1 = ap length is ∙ one ∙ ap (λ (l : List Write). length l + 1) (sym left) in
     record {
@@ -169,7 +120,7 @@ pub writes_on : (f : CreatedFile) (s t n : Session) (v u x : SeatView) → Showi
     → ((log : Log) → Stands t log → Stands n log) → Writes f s v → Writes f n x
 writes_on f s t n v u x so image seen name dataset stands w =
     let now = so.stands w.log w.stands in
-    let same = shown_stays s t t.pending so.session in
+    let same = piece_leaves s t t.pending so.session in
     let d : n.dataset ≡ s.dataset = dataset ∙ same.dataset in
     record {
       log = record (w.log) { events = now.events };

@@ -10,11 +10,13 @@ use Rattle.h5w_model.specs.declared.root.Super.{Super}
 use Rattle.h5w_creation_laws.specs.CreatedFiles.{CreatedFile, IsCreatable, created_log, created_writes, described_of}
 use Rattle.h5w_writer.specs.Creations.{IsCreated, log_of}
 use Rattle.h5w_writer.specs.Loads.{NoPlace}
-use Rattle.h5w_writer.specs.Refusals.{IsFullFor}
+use Rattle.h5w_writer.specs.Refusals.{IsFullFor, append_refusal}
 use Rattle.h5w_writer.specs.Sessions.{Session, with_rows}
 use Rattle.h5w_writer.specs.Stands.{Stands}
 use Rattle.h5w_writer.specs.declared.refusal.AppendError.{AppendError}
 use Rattle.h5w_writer.specs.declared.refusal.AppendError.TheVariants as errors
+use Rattle.h5w_writer.specs.declared.refusal.FlushError.{FlushError}
+use Rattle.h5w_writer.specs.declared.refusal.FlushError.TheVariants as flushes
 use Rattle.h5w_space.specs.declared.Full.{Full}
 use Rattle.h5w_shared.specs.Seats.{SeatView}
 use Rattle.h5w_shared.specs.Threads.{IsLogOf}
@@ -187,6 +189,40 @@ pub record LacksPlace (f : CreatedFile) (most : ℕ) (done : List (List ℤ)) (b
   pub flushed : flushed_rows log ≡ length (values_in done) / f.columns
   pub full_for : IsFullFor session full
   pub lacks : (any : Log) → Stands session any → NoPlace session any full
+
+-- what halts a batch whose values are not appended; none is appended to a session that is stopped or busy
+abbrev pub append_halt : AppendError → Halt
+append_halt errors.Stopped = halts.Failed
+append_halt (errors.Busy pending) = halts.Failed
+append_halt (errors.OutOfRange index value) = halts.OutOfRange index value
+append_halt (errors.Chunks chunks limit) = halts.Chunks chunks limit
+append_halt errors.Failed = halts.Failed
+append_halt errors.OutOfMemory = halts.OutOfMemory
+
+-- why values are not appended
+abbrev pub HaltsAppend : Session → List ℤ → Halt → Type 0
+HaltsAppend s values (halts.OutOfRange index value) = append_refusal s values ≡ Some (errors.OutOfRange index value)
+HaltsAppend s values (halts.Chunks chunks limit) = append_refusal s values ≡ Some (errors.Chunks chunks limit)
+HaltsAppend s values (halts.Space full) = ⊥
+HaltsAppend s values halts.Failed = Unit {0}
+HaltsAppend s values halts.OutOfMemory = Unit {0}
+
+-- what halts a batch whose flush is not planned; none is planned by a session that is stopped or busy, and the index is one that was created
+abbrev pub flush_halt : FlushError → Halt
+flush_halt flushes.Stopped = halts.Failed
+flush_halt (flushes.Busy pending) = halts.Failed
+flush_halt (flushes.Space full) = halts.Space full
+flush_halt flushes.Deep = halts.Failed
+flush_halt flushes.Failed = halts.Failed
+flush_halt flushes.OutOfMemory = halts.OutOfMemory
+
+-- why a flush is not planned
+abbrev pub HaltsFlush : Session → Halt → Type 0
+HaltsFlush s (halts.OutOfRange index value) = ⊥
+HaltsFlush s (halts.Chunks chunks limit) = ⊥
+HaltsFlush s (halts.Space full) = IsFullFor s full × ((log : Log) → Stands s log → NoPlace s log full)
+HaltsFlush s halts.Failed = Unit {0}
+HaltsFlush s halts.OutOfMemory = Unit {0}
 
 -- why a batch was not flushed behind these
 abbrev pub Refuses : CreatedFile → ℕ → List (List ℤ) → List ℤ → Halt → Type 0

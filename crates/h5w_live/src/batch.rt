@@ -1,20 +1,16 @@
 //! A batch of the writer of a run: it is appended and flushed, and its pieces become visible.
-ghost use Rattle.std.specs.Prelude.{◌≡◌, ◌≢◌, ◌⊎◌, ℕ, ℤ, List, ◌<◌, ◌≤◌, ◌+◌, ◌++◌, ◌∷◌, [], length, IfErr, IfOk, OnErr, OnOk, Ok, Err, Some, None};
+ghost use Rattle.std.specs.Prelude.{◌≡◌, ◌≢◌, ◌⊎◌, ℕ, ℤ, List, ◌<◌, ◌≤◌, ◌++◌, ◌∷◌, [], length, IfErr, IfOk, OnErr, OnOk, Err, None};
 ghost use Rattle.h5w_model.specs.Agrees.{values_in};
-ghost use Rattle.h5w_model.specs.Lawful.{first_outside};
 ghost use Rattle.h5w_model.specs.Logs.{Log, and_now, appends, plans};
 ghost use Rattle.h5w_model.specs.declared.piece.Write.{Write};
 ghost use Rattle.h5w_model.specs.declared.report.FlushLine.{FlushLine};
-ghost use Rattle.h5w_space.specs.declared.Full.{Full};
 ghost use Rattle.h5w_creation_laws.specs.CreatedFiles.{CreatedFile};
 ghost use Rattle.h5w_writer.specs.Flushes.{SameBut};
-ghost use Rattle.h5w_writer.specs.Loads.{NoPlace};
 ghost use Rattle.h5w_writer.specs.Past.{IsNew};
-ghost use Rattle.h5w_writer.specs.Refusals.{IsFullFor, append_refusal, flush_refusal};
+ghost use Rattle.h5w_writer.specs.Refusals.{IsSpace, append_refusal, flush_refusal};
 ghost use Rattle.h5w_writer.specs.Sessions.{AddsValues, AreRows, TakesRows};
 ghost use Rattle.h5w_writer.specs.Stands.{Stands};
-ghost use Rattle.h5w_writer.specs.declared.refusal.AppendError.TheVariants as appending;
-ghost use Rattle.h5w_live.specs.Writing.{HasAppended, HasFlushed, HasRoom, LacksPlace, StaysSeated, Writes, batch_refusal};
+ghost use Rattle.h5w_live.specs.Writing.{HaltsAppend, HaltsFlush, HasAppended, HasFlushed, HasRoom, Refuses, StaysSeated, Writes, append_halt, batch_refusal, flush_halt};
 
 use crate::seated::{append, flush};
 use crate::writing::{Halt, show, show_early};
@@ -24,6 +20,37 @@ use h5w_pen::Pen;
 use h5w_shared::SharedImage;
 use h5w_writer::{AppendError, FlushError, WriterCore};
 use std::sync::Wait;
+
+/// Why a batch is not appended, by why its values are not.
+fn append_halt(error: AppendError) -> Halt
+    requires stopped { error ≢ AppendError.Stopped }
+    requires busy { (pending : ℕ) → error ≢ AppendError.Busy pending }
+    ensures is { result ≡ append_halt error }
+    ensures failed { result ≡ Halt.Failed → error ≡ AppendError.Failed }
+{
+    match error {
+        AppendError::OutOfRange { index, value } => Halt::OutOfRange { index, value },
+        AppendError::Chunks { chunks, limit } => Halt::Chunks { chunks, limit },
+        AppendError::Failed => Halt::Failed,
+        AppendError::OutOfMemory => Halt::OutOfMemory,
+        AppendError::Stopped => unreachable!(),
+        AppendError::Busy { .. } => unreachable!(),
+    }
+}
+
+/// Why a batch is not flushed, by why the flush of its rows is not planned.
+fn flush_halt(error: FlushError) -> Halt
+    requires { IsSpace error ⊎ ((error ≡ FlushError.Failed) ⊎ (error ≡ FlushError.OutOfMemory)) }
+    ensures is { result ≡ flush_halt error }
+    ensures failed { result ≡ Halt.Failed → error ≡ FlushError.Failed }
+{
+    match error {
+        FlushError::Space(full) => Halt::Space(full),
+        FlushError::Failed => Halt::Failed,
+        FlushError::OutOfMemory => Halt::OutOfMemory,
+        _ => unreachable!(),
+    }
+}
 
 /// Appends a batch behind others that were flushed.
 fn take<R: Wait>(
@@ -41,21 +68,14 @@ fn take<R: Wait>(
     ensures stands { OnOk result ((log : Log) → Stands session.old log → Stands session.new (and_now (appends values.now) log)) }
     ensures room { OnOk result (HasRoom session.new seat.new) }
     ensures accepted { OnOk result (append_refusal session.old values.now ≡ None) }
-    ensures range { (index : ℕ) (value : ℤ) → result ≡ Err (Halt.OutOfRange index value) → append_refusal session.old values.now ≡ Some (appending.OutOfRange index value) }
-    ensures chunks { (chunks limit : ℕ) → result ≡ Err (Halt.Chunks chunks limit) → append_refusal session.old values.now ≡ Some (appending.Chunks chunks limit) }
-    ensures space { (full : Full) → result ≢ Err (Halt.Space full) }
+    ensures refused { IfErr result (HaltsAppend session.old values.now) }
     ensures kept { OnErr result (session.new ≡ session.old) }
     ensures seat { StaysSeated seat.old seat.new }
     ensures failed { result ≡ Err Halt.Failed → 0 < seat.new.faults }
 {
     match append(rt, image, seat, session, values) {
         Ok(_) => Ok(()),
-        Err(AppendError::OutOfRange { index, value }) => Err(Halt::OutOfRange { index, value }),
-        Err(AppendError::Chunks { chunks, limit }) => Err(Halt::Chunks { chunks, limit }),
-        Err(AppendError::Failed) => Err(Halt::Failed),
-        Err(AppendError::OutOfMemory) => Err(Halt::OutOfMemory),
-        Err(AppendError::Stopped) => unreachable!(),
-        Err(AppendError::Busy { .. }) => unreachable!(),
+        Err(error) => Err(append_halt(error)),
     }
 }
 
@@ -73,9 +93,7 @@ fn add<R: Wait>(
     requires flushed { (f : CreatedFile) × (most : ℕ) × (done : List (List ℤ)) × (lines : List FlushLine) × HasFlushed f most done session.old seat.old lines }
     ensures added { OnOk result ((early : List Write) × HasAppended values.now early session.old session.new seat.old seat.new) }
     ensures accepted { OnOk result (append_refusal session.old values.now ≡ None) }
-    ensures range { (index : ℕ) (value : ℤ) → result ≡ Err (Halt.OutOfRange index value) → append_refusal session.old values.now ≡ Some (appending.OutOfRange index value) }
-    ensures chunks { (chunks limit : ℕ) → result ≡ Err (Halt.Chunks chunks limit) → append_refusal session.old values.now ≡ Some (appending.Chunks chunks limit) }
-    ensures space { (full : Full) → result ≢ Err (Halt.Space full) }
+    ensures refused { IfErr result (HaltsAppend session.old values.now) }
     ensures left { OnErr result ((f : CreatedFile) → Writes f session.old seat.old → Writes f session.new seat.new) }
     ensures image { seat.new.image ≡ image.now }
     ensures failed { result ≡ Err Halt.Failed → 0 < seat.new.faults }
@@ -104,10 +122,7 @@ fn plan<R: Wait>(
     ensures flushed { OnOk result (TakesRows session.old session.new) }
     ensures some { OnOk result (1 ≤ length session.new.pending) }
     ensures stands { OnOk result ((log : Log) → Stands session.old log → Stands session.new (and_now (plans (length session.new.pending)) log)) }
-    ensures range { (index : ℕ) (value : ℤ) → result ≢ Err (Halt.OutOfRange index value) }
-    ensures chunks { (chunks limit : ℕ) → result ≢ Err (Halt.Chunks chunks limit) }
-    ensures full { (full : Full) → result ≡ Err (Halt.Space full) → IsFullFor session.old full }
-    ensures space { (full : Full) → result ≡ Err (Halt.Space full) → (log : Log) → Stands session.old log → NoPlace session.old log full }
+    ensures refused { IfErr result (HaltsFlush session.old) }
     ensures kept { OnErr result (SameBut session.old session.new) }
     ensures left { OnErr result ((log : Log) → Stands session.old log → Stands session.new log) }
     ensures seat { StaysSeated seat.old seat.new }
@@ -116,11 +131,7 @@ fn plan<R: Wait>(
 {
     match flush(rt, image, seat, session) {
         Ok(_) => Ok(()),
-        Err(FlushError::Space(full)) => Err(Halt::Space(full)),
-        Err(FlushError::Failed) => Err(Halt::Failed),
-        Err(FlushError::OutOfMemory) => Err(Halt::OutOfMemory),
-        Err(FlushError::Deep) => unreachable!(),
-        Err(_) => unreachable!(),
+        Err(error) => Err(flush_halt(error)),
     }
 }
 
@@ -141,12 +152,7 @@ pub fn put<R: Wait, G: Gate>(
     ensures image { seat.new.image ≡ image.now }
     ensures flushed { (f : CreatedFile) (most : ℕ) (done : List (List ℤ)) (lines : List FlushLine) → HasFlushed f most done session.old seat.old lines → IfOk result (λ line. HasFlushed f most (done ++ values.now ∷ []) session.new seat.new (lines ++ line ∷ [])) }
     ensures accepted { (f : CreatedFile) (most : ℕ) (done : List (List ℤ)) (lines : List FlushLine) → HasFlushed f most done session.old seat.old lines → OnOk result (batch_refusal f (length (values_in done)) values.now ≡ None) }
-    ensures range { (f : CreatedFile) (most : ℕ) (done : List (List ℤ)) (lines : List FlushLine) → HasFlushed f most done session.old seat.old lines
-        → (index : ℕ) (value : ℤ) → result ≡ Err (Halt.OutOfRange index value) → batch_refusal f (length (values_in done)) values.now ≡ Some (appending.OutOfRange index value) }
-    ensures chunks { (f : CreatedFile) (most : ℕ) (done : List (List ℤ)) (lines : List FlushLine) → HasFlushed f most done session.old seat.old lines
-        → (chunks limit : ℕ) → result ≡ Err (Halt.Chunks chunks limit) → batch_refusal f (length (values_in done)) values.now ≡ Some (appending.Chunks chunks limit) }
-    ensures space { (f : CreatedFile) (most : ℕ) (done : List (List ℤ)) (lines : List FlushLine) → HasFlushed f most done session.old seat.old lines
-        → (full : Full) → result ≡ Err (Halt.Space full) → (batch_refusal f (length (values_in done)) values.now ≡ None) × LacksPlace f most done values.now full }
+    ensures refused { (f : CreatedFile) (most : ℕ) (done : List (List ℤ)) (lines : List FlushLine) → HasFlushed f most done session.old seat.old lines → IfErr result (λ e. Refuses f most done values.now e) }
     ensures left { (f : CreatedFile) (most : ℕ) (done : List (List ℤ)) (lines : List FlushLine) → HasFlushed f most done session.old seat.old lines → OnErr result (Writes f session.new seat.new) }
     ensures failed { result ≡ Err Halt.Failed → 0 < seat.new.faults }
 {

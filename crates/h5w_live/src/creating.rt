@@ -3,7 +3,7 @@ ghost use Rattle.std.specs.Prelude.{◌≡◌, ℕ, ◌<◌, [], IfNone, IfOk, I
 ghost use Rattle.h5w_options.specs.Options.{AreOptions};
 ghost use Rattle.h5w_creation_laws.specs.CreatedFiles.{CreatedFile};
 ghost use Rattle.h5w_replica.specs.Batches.{AreShort};
-ghost use Rattle.h5w_form.specs.NewFiles.{new_file};
+ghost use Rattle.h5w_creation.specs.NewFiles.{new_file};
 ghost use Rattle.h5w_shared.specs.Seats.{note_of};
 ghost use Rattle.h5w_live.specs.Seconds.{IsSecondOf};
 ghost use Rattle.h5w_live.specs.Writing.{HasFlushed, IsCreating};

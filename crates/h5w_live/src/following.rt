@@ -9,8 +9,8 @@ use h5w_image::{Gate, Journal};
 use h5w_replica::{Follow, FollowError};
 use h5w_shared::{Note, SharedImage};
 use std::sync::Wait;
-use std::sync::atomic::{AtomicBool, Ordering};
-use std::{hint, thread};
+use std::sync::atomic::{AtomicBool, AtomicU64, Ordering};
+use std::time::Duration;
 
 /// A second image, and the end of the mirror that writes it.
 #[derive(Drop)]
@@ -49,27 +49,12 @@ pub fn caught_up<R: Wait>(
     }
 }
 
-/// How often a follower looks in vain for a batch before it lets another thread run.
-const LOOKS: u32 = 1_000;
+/// So many microseconds at least lie between two looks for a batch. The later one has more pieces for it.
+const REST: u64 = 10;
 
-/// So many pauses of the processor lie between a batch and the look for the next one, which has more pieces for it.
-const BREATH: u32 = 2_000;
-
-/// Lets some time pass, in which the writer is not disturbed.
-fn breathe() {
-    for _ in 0..BREATH {
-        hint::spin_loop();
-    }
-}
-
-/// A follower that has looked so often in vain waits for its next look.
-fn pause(looks: u32) -> u32 {
-    if looks < LOOKS {
-        hint::spin_loop();
-        return looks + 1;
-    }
-    thread::yield_now();
-    0
+/// The follower sleeps, and its processor is for others.
+fn rest<R: Wait>(rt: &R) {
+    AtomicU64::new(0).park_timeout(rt, 0, Duration::from_micros(REST));
 }
 
 /// Follows the first image until the writer is over and nothing more comes, or a batch begins past the second image. The follower comes to its
@@ -88,7 +73,6 @@ pub fn follow_all<R: Wait, G: Gate>(
     ensures first { result.seat.image ≡ first.now }
     ensures second { result.second.image ≡ second.now }
 {
-    let mut looks = 0u32;
     for _ in rt.forever() {
         let last = over.load(Ordering::SeqCst);
         let taken = match follow.step(rt, first, second) {
@@ -99,12 +83,10 @@ pub fn follow_all<R: Wait, G: Gate>(
         };
         if taken > 0 {
             gate.turn(actor, follow.seen());
-            breathe();
         } else if last {
             return follow;
-        } else {
-            looks = pause(looks);
         }
+        rest(rt);
     }
     unreachable!()
 }

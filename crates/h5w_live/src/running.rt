@@ -2,7 +2,7 @@
 ghost use Rattle.std.specs.Prelude.{◌≡◌, ◌+◌, ◌≤◌, IfErr, IfOk, OnOk, None};
 ghost use Rattle.h5w_model.specs.Agrees.{Agrees, values_in};
 ghost use Rattle.h5w_options.specs.Options.{AreAttempts, AreOptions, columns_in};
-ghost use Rattle.h5w_form.specs.NewFiles.{new_file};
+ghost use Rattle.h5w_creation.specs.NewFiles.{new_file};
 ghost use Rattle.h5w_live.specs.Reports.{AreWhole, IsCause, IsShut, TellSeats, before_close, run_of};
 ghost use Rattle.h5w_live.specs.Writing.{AreBatches, first_refused};
 

@@ -1,3 +1,3 @@
 pub mod LineLemmas
-pub mod SightLemmas
+mod SightLemmas
 pub mod PollLemmas

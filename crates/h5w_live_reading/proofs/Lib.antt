@@ -1,5 +1,5 @@
 pub mod CallLemmas
-pub mod ReadingLemmas
+mod ReadingLemmas
 pub mod PartLemmas
 pub mod ActorLemmas
 pub mod Sent

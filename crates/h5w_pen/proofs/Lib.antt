@@ -1,1 +1,1 @@
-pub mod PenLemmas
+mod PenLemmas

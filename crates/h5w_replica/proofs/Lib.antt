@@ -1,5 +1,5 @@
-pub mod FeedLemmas
-pub mod FollowLemmas
-pub mod PiecesLemmas
-pub mod PutLemmas
+mod FeedLemmas
+mod FollowLemmas
+mod PiecesLemmas
+mod PutLemmas
 pub mod Sent

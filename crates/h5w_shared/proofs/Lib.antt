@@ -1,6 +1,6 @@
 pub mod Beginnings
-pub mod TurnLemmas
-pub mod CallLemmas
+mod TurnLemmas
+mod CallLemmas
 pub mod SeatLemmas
 pub mod Sent
 pub mod ThreadLemmas

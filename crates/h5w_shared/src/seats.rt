@@ -12,11 +12,12 @@ use h5w_model::{Piece, Write};
 use std::marker::Model;
 use std::sync::Wait;
 
-/// A seat that has to make room makes it for so many pieces at least.
-const MORE: u64 = 256;
+/// A seat that has to make room makes it for so many pieces at least. Each list of them is then so long that the system gives it pages of its
+/// own, and more of these as it grows. A short list grows among what other threads take and give back, and they wait meanwhile.
+const MORE: u64 = 8_192;
 
 /// And for so many bytes past the end that was asked for.
-const FARTHER: u64 = 65_536;
+const FARTHER: u64 = 1_048_576;
 
 /// The one seat of a shared image that writes it. Its list is the image's history.
 #[derive(Drop)]

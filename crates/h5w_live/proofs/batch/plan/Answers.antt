@@ -1,25 +1,20 @@
-use Rattle.std.proofs.Common.{rules, ◌≡◌, ◌∙◌, Err, ap, subst}
-use Rattle.h5w_space.specs.declared.Full.{Full}
-use Rattle.h5w_writer.specs.Loads.{NoPlace}
-use Rattle.h5w_writer.specs.Refusals.{IsFullFor, flush_refusal}
-use Rattle.h5w_live.proofs.BatchLemmas.{no_other}
+use Rattle.std.proofs.Common.{◌∙◌, Err, ap, sym, subst}
+use Rattle.h5w_laws.proofs.ResultLemmas.{err_is}
+use Rattle.h5w_writer.specs.Refusals.{flush_refusal}
+use Rattle.h5w_live.specs.Writing.{HaltsFlush}
+use Rattle.h5w_live.specs.declared.writing.Halt.TheVariants as halts
+use Rattle.h5w_live.proofs.BatchLemmas.{flush_halts, plan_refused}
 use Rattle.h5w_live.proofs.batch.plan.Goals as goal
 
-pub unreachable-requires : goal.unreachable-requires
-unreachable-requires g c =
+pub flush_halt-requires : goal.flush_halt-requires
+flush_halt-requires g c =
     let made = c.requires.created in
-    c.flush.ensures.shallow made.0 made.1 made.2 (c.in-Err-Deep.is ∙ ap Err c.in-Err-Deep.field-0-is)
+    plan_refused (flush_refusal c.args.session.now) c.in-Err.error c.requires.taken c.in-Err.ensures.causes (λ deep. c.flush.ensures.shallow made.0 made.1 made.2 (c.in-Err.is ∙ ap Err deep))
 
-pub returns-in-Err-Space-clause-full : goal.returns-in-Err-Space-clause-full
-returns-in-Err-Space-clause-full g c = λ full same.
-    let is : c.in-Err-Space.full ≡ full = cc in
-    subst (λ (x : Full). IsFullFor c.args.session.now x) is (c.flush.ensures.full c.in-Err-Space.full (search rules))
+pub returns-in-Err-clause-refused : goal.returns-in-Err-clause-refused
+returns-in-Err-clause-refused g c =
+    subst (HaltsFlush c.args.session.now) (sym c.flush_halt.ensures.is)
+    (flush_halts c.args.session.now c.in-Err.error (λ full same. c.flush.ensures.full full (c.in-Err.is ∙ ap Err same)) (λ full same. c.flush.ensures.bounds full (c.in-Err.is ∙ ap Err same)))
 
-pub returns-in-Err-Space-clause-space : goal.returns-in-Err-Space-clause-space
-returns-in-Err-Space-clause-space g c = λ full same log stands.
-    let is : c.in-Err-Space.full ≡ full = cc in
-    subst (λ (x : Full). NoPlace c.args.session.now log x) is (c.flush.ensures.bounds c.in-Err-Space.full (search rules) log stands)
-
-pub unreachable-requires-in-Err : goal.unreachable-requires-in-Err
-unreachable-requires-in-Err g c =
-    no_other (flush_refusal c.args.session.now) c.in-Err.field-0 c.requires.taken c.in-Err.ensures.causes (search rules) (search rules) (search rules) (search rules)
+pub returns-in-Err-clause-failed : goal.returns-in-Err-clause-failed
+returns-in-Err-clause-failed g c = λ same. c.flush.ensures.failed (c.in-Err.is ∙ ap Err (c.flush_halt.ensures.failed (err_is c.flush_halt.result halts.Failed same)))

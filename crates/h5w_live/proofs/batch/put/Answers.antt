@@ -1,8 +1,7 @@
-use Rattle.std.proofs.Common.{◌≡◌, Err, sym, ap, ◌∙◌}
+use Rattle.std.proofs.Common.{sym, ap, ◌∙◌}
 use Rattle.std.specs.Prelude.{length}
 use Rattle.h5w_writer.specs.Sessions.{Session}
-use Rattle.h5w_live.specs.declared.writing.Halt.TheVariants as halts
-use Rattle.h5w_live.proofs.BatchLemmas.{added_writes, flush_taken, lacks_place, planned_writes, put_flushed, refusal_for, waits_some, writes_still}
+use Rattle.h5w_live.proofs.BatchLemmas.{added_writes, append_refuses, flush_refuses, flush_taken, planned_writes, put_flushed, refusal_for, waits_some, writes_still}
 use Rattle.h5w_live.proofs.batch.put.Goals as goal
 
 pub plan-requires-clause-waits : goal.plan-requires-clause-waits
@@ -23,16 +22,6 @@ plan-requires-clause-created g c =
     let a = c.in-Ok.ensures.added in
     let w = added_writes h.0 c.args.session.now c.add.new.session c.args.seat.now c.add.new.seat c.args.values.now a.0 h.4.writes a.1 in
     (w.log, w.stands, record { file = h.0; is = w.is; log_is = w.new })
-
-pub returns-in-Err-clause-range : goal.returns-in-Err-clause-range
-returns-in-Err-clause-range g c = λ f most done lines h index value same.
-    let halt : c.in-Err.halt ≡ halts.OutOfRange index value = cc in
-    sym (refusal_for f most done c.args.session.now c.args.seat.now lines h c.args.values.now c.requires.rows c.requires.some) ∙ c.add.ensures.range index value (c.in-Err.is ∙ ap Err halt)
-
-pub returns-in-Err-clause-chunks : goal.returns-in-Err-clause-chunks
-returns-in-Err-clause-chunks g c = λ f most done lines h chunks limit same.
-    let halt : c.in-Err.halt ≡ halts.Chunks chunks limit = cc in
-    sym (refusal_for f most done c.args.session.now c.args.seat.now lines h c.args.values.now c.requires.rows c.requires.some) ∙ c.add.ensures.chunks chunks limit (c.in-Err.is ∙ ap Err halt)
 
 pub returns-in-Err-clause-left : goal.returns-in-Err-clause-left
 returns-in-Err-clause-left g c = λ f most done lines h. c.in-Err.ensures.left f h.writes
@@ -63,11 +52,14 @@ returns-in-Err-show-clause-left g c = λ f most done lines h.
     (added_writes f c.args.session.now c.add.new.session c.args.seat.now c.add.new.seat c.args.values.now a.0 h.writes a.1)
     c.plan.ensures.seat c.in-Ok-plan.ensures.flushed (length c.plan.new.session.pending) c.in-Ok-plan.ensures.stands)
 
-pub returns-in-Err-plan-clause-space : goal.returns-in-Err-plan-clause-space
-returns-in-Err-plan-clause-space g c = λ f most done lines h full same.
-    let halt : c.in-Err-plan.halt ≡ halts.Space full = cc in
-    let a = c.in-Ok.ensures.added in (
-      sym (refusal_for f most done c.args.session.now c.args.seat.now lines h c.args.values.now c.requires.rows c.requires.some) ∙ c.in-Ok.ensures.accepted,
-      lacks_place f most done c.args.session.now c.args.seat.now lines c.args.values.now a.0 c.add.new.session c.add.new.seat full h a.1
-          (c.plan.ensures.full full (c.in-Err-plan.is ∙ ap Err halt)) (c.plan.ensures.space full (c.in-Err-plan.is ∙ ap Err halt)),
-    )
+pub returns-in-Err-clause-refused : goal.returns-in-Err-clause-refused
+returns-in-Err-clause-refused g c = λ f most done lines h.
+    append_refuses f most done c.args.session.now c.args.seat.now lines h c.args.values.now c.requires.rows c.requires.some c.in-Err.halt c.in-Err.ensures.refused
+
+pub returns-in-Err-plan-clause-refused : goal.returns-in-Err-plan-clause-refused
+returns-in-Err-plan-clause-refused g c = λ f most done lines h.
+    let a = c.in-Ok.ensures.added in
+    flush_refuses f most done c.args.session.now c.args.seat.now lines h c.args.values.now c.requires.rows c.requires.some c.in-Ok.ensures.accepted a.0 c.add.new.session c.add.new.seat a.1 c.in-Err-plan.halt c.in-Err-plan.ensures.refused
+
+pub returns-in-Err-show-clause-refused : goal.returns-in-Err-show-clause-refused
+returns-in-Err-show-clause-refused g c = λ f most done lines h. tt

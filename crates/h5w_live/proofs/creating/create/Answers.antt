@@ -1,5 +1,5 @@
-use Rattle.h5w_form.proofs.OptionLemmas.{creatable}
-use Rattle.h5w_form.specs.NewFiles.{new_file}
+use Rattle.h5w_creation.proofs.OptionLemmas.{creatable}
+use Rattle.h5w_creation.specs.NewFiles.{new_file}
 use Rattle.h5w_live.proofs.creating.create.Goals as goal
 
 pub shared-requires : goal.shared-requires

@@ -1,5 +1,5 @@
 use Rattle.std.proofs.Common.{◌+◌, sym, subst, vec_len, []}
-use Rattle.h5w_form.specs.NewFiles.{new_file}
+use Rattle.h5w_creation.specs.NewFiles.{new_file}
 use Rattle.h5w_shared.specs.Seats.{SeatView}
 use Rattle.h5w_live.specs.Writing.{HasFlushed}
 use Rattle.h5w_live.proofs.EndLemmas.{created_seen}

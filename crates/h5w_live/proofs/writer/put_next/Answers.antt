@@ -2,7 +2,7 @@ use Rattle.std.proofs.Common.{rules, Err, ap, sym, ◌∙◌, subst}
 use Rattle.std.specs.Prelude.{List, ◌++◌, ◌∷◌, []}
 use Rattle.h5w_model.specs.declared.report.FlushLine.{FlushLine}
 use Rattle.h5w_live.specs.Writing.{HasFlushed}
-use Rattle.h5w_live.proofs.WriterLemmas.{empty_flushed, refuses}
+use Rattle.h5w_live.proofs.WriterLemmas.{empty_flushed}
 use Rattle.h5w_live.proofs.writer.put_next.Goals as goal
 
 pub returns-then-is_empty-clause-flushed : goal.returns-then-is_empty-clause-flushed
@@ -17,7 +17,4 @@ pub returns-in-Ok-push-clause-accepted : goal.returns-in-Ok-push-clause-accepted
 returns-in-Ok-push-clause-accepted g c = λ f most done h. c.in-Ok.ensures.accepted f most done c.args.lines.now.items h
 
 pub returns-in-Err-clause-refused : goal.returns-in-Err-clause-refused
-returns-in-Err-clause-refused g c = λ f most done h.
-    refuses f most done c.args.values.now c.in-Err.halt (λ index value same. c.put.ensures.range f most done c.args.lines.now.items h index value (c.in-Err.is ∙ ap Err same))
-    (λ chunks limit same. c.put.ensures.chunks f most done c.args.lines.now.items h chunks limit (c.in-Err.is ∙ ap Err same))
-    (λ full same. c.put.ensures.space f most done c.args.lines.now.items h full (c.in-Err.is ∙ ap Err same))
+returns-in-Err-clause-refused g c = λ f most done h. c.in-Err.ensures.refused f most done c.args.lines.now.items h
