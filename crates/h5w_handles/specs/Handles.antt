@@ -48,6 +48,10 @@ pub record QuitsReader (old new : Option Held) : Type 0 where
 abbrev pub are_attempts : ℕ → Bool
 are_attempts n = nat_le 1 n && nat_le n 1000
 
+-- a reader is held, of which a look is wanted; or memory is wanting, and none is held
+abbrev pub HoldsReader : ReaderState → H5wTold → Option Held → Type 0
+HoldsReader s answer new = ((answer ≡ wants_more) × (new ≡ Some (Reader s))) ⊎ ((answer ≡ no_memory) × (new ≡ None))
+
 -- A handle that holds something is busy, and one that holds nothing is misused if the attempts are out of their bounds. Else it holds a new
 -- reader, of which a look is wanted, or memory is wanting.
 pub record OpensReader (name : List ℕ) (attempts : ℕ) (old : Option Held) (answer : H5wTold) (new : Option Held) : Type 0 where

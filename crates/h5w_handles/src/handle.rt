@@ -1,11 +1,21 @@
 //! A handle as C has it.
-ghost use Rattle.std.specs.Prelude.{◌≡◌, IsFalse, IsTrue, is_none, is_some, Some, None};
+ghost use Rattle.std.specs.Prelude.{◌≡◌, IfSome, IsFalse, IsTrue, is_none, is_some, Some, None};
 ghost use Rattle.std.specs.Option.{option_map};
 
 use crate::held::Held;
 use crate::owner::Owner;
 use std::alloc::Global;
 use std::mem;
+
+/// A box with this value; none if memory is wanting, and then the value is let go.
+fn boxed<T: Drop>(alloc: Global, value: T) -> Option<Box<T>>
+    ensures { IfSome result (λ b. b.value ≡ value) }
+{
+    match Box::new(alloc, value) {
+        Ok(b) => Some(b),
+        Err(_) => None,
+    }
+}
 
 /// A handle as C has it: all zero, which holds nothing, or as a call left it.
 #[repr(C)]
@@ -63,13 +73,11 @@ impl Handle {
         ensures yes { IsTrue result → self.new.at.held ≡ Some held }
         ensures no { IsFalse result → self.new.at.held ≡ self.old.at.held }
     {
-        match Box::new(alloc, held) {
-            Ok(held) => {
-                self.put(held);
-                true
-            }
-            Err(_) => false,
-        }
+        let Some(held) = boxed(alloc, held) else {
+            return false;
+        };
+        self.put(held);
+        true
     }
 
     /// It holds nothing any more, and what it held is let go.

@@ -3,7 +3,7 @@ ghost use Rattle.std.specs.Prelude.{◌≡◌, None};
 ghost use Rattle.h5w_model.specs.Calls.{rows_seen};
 ghost use Rattle.h5w_reader.specs.Cores.{reader};
 ghost use Rattle.h5w_handles.specs.Codes.{misuse};
-ghost use Rattle.h5w_handles.specs.Handles.{OnReader, OpensReader, QuitsReader};
+ghost use Rattle.h5w_handles.specs.Handles.{HoldsReader, OnReader, OpensReader, QuitsReader};
 ghost use Rattle.h5w_handles.specs.ReaderCalls.{BeginsRead, Copied, Gave, IsKnownShape, IsWantedPlace, Refreshed, TellsRefusal};
 
 use crate::code::{H5wCode, H5wPlace, H5wTold};
@@ -12,9 +12,22 @@ use crate::handle::Handle;
 use crate::held::Held;
 use crate::reader::ReaderState;
 use crate::shape::H5wShape;
+use h5w_model::OutOfMemory;
 use std::alloc::Global;
 
 impl Handle {
+    /// Holds a reader of which a look is wanted; or memory is wanting.
+    fn hold_reader(&mut self, alloc: Global, state: ReaderState) -> H5wTold
+        requires { self.old.at.held ≡ None }
+        ensures { HoldsReader state result self.new.at.held }
+    {
+        if self.hold(alloc, Held::Reader(state)) {
+            H5wCode::More.alone()
+        } else {
+            H5wCode::Memory.alone()
+        }
+    }
+
     /// Holds a reader from now on, which begins to open the dataset of this name. Where a dataset header changes between its looks, a call
     /// tries so often, 1 to 1,000 times.
     pub fn open_reader(&mut self, alloc: Global, name: &[u8], attempts: u32) -> H5wTold
@@ -26,14 +39,10 @@ impl Handle {
         if attempts < 1 || attempts > 1_000 {
             return H5wCode::Misuse.alone();
         }
-        let Ok(state) = ReaderState::open(alloc, name, attempts) else {
-            return H5wCode::Memory.alone();
-        };
-        let Ok(held) = Box::new(alloc, Held::Reader(state)) else {
-            return H5wCode::Memory.alone();
-        };
-        self.put(held);
-        H5wCode::More.alone()
+        match ReaderState::open(alloc, name, attempts) {
+            Ok(state) => self.hold_reader(alloc, state),
+            Err(OutOfMemory) => H5wCode::Memory.alone(),
+        }
     }
 
     /// Where the next look of the reader's unfinished call is.

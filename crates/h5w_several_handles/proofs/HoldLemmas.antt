@@ -11,7 +11,7 @@ use Rattle.h5w_options.specs.declared.options.Options.{Options}
 use Rattle.h5w_creation.specs.Forms.{IsForm, a_name, created_by}
 use Rattle.h5w_creation.specs.declared.form.Form.{Form}
 use Rattle.h5w_creation_laws.specs.CreatedFiles.{CreatedFile}
-use Rattle.h5w_form.specs.NewFiles.{new_file}
+use Rattle.h5w_creation.specs.NewFiles.{new_file}
 use Rattle.h5w_looks.specs.Still.{IsStill}
 use Rattle.h5w_opening.specs.Errors.{IsOpenKind}
 use Rattle.h5w_opening.specs.declared.error.OpenError.{OpenError}

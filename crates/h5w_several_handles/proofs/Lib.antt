@@ -1,5 +1,5 @@
-pub mod CallLemmas
-pub mod HoldLemmas
-pub mod ListLemmas
-pub mod NameLemmas
-pub mod PieceLemmas
+mod CallLemmas
+mod HoldLemmas
+mod ListLemmas
+mod NameLemmas
+mod PieceLemmas

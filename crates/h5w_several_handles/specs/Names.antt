@@ -5,7 +5,7 @@ use Rattle.h5w_model.specs.Relations.{AllPaired}
 use Rattle.h5w_creation.specs.Forms.{IsForm, a_name, created_by}
 use Rattle.h5w_creation.specs.declared.form.Form.{Form}
 use Rattle.h5w_creation_laws.specs.CreatedFiles.{CreatedFile}
-use Rattle.h5w_form.specs.NewFiles.{new_file}
+use Rattle.h5w_creation.specs.NewFiles.{new_file}
 use Rattle.h5w_options.specs.Options.{AreOptions}
 use Rattle.h5w_several_creation.specs.Forms.{AreNames}
 use Rattle.h5w_several_creation_laws.specs.SeveralFiles.{AllNamed}

@@ -11,7 +11,7 @@ ghost use Rattle.h5w_several_handles.specs.Sets.{IsNewSet, IsOpenedSet};
 use crate::bounds::{are_set_bounds, are_set_options, most_of};
 use crate::names::names_of;
 use crate::showing::pending;
-use h5w_form::{Form, form_of};
+use h5w_creation::{Form, form_of};
 use h5w_handles::{H5wCode, H5wTold, Handle, Held, SeveralState};
 use h5w_model::OutOfMemory;
 use h5w_names::Names;

@@ -9,7 +9,7 @@ use Rattle.h5w_opening.specs.Errors.{IsOpenKind}
 use Rattle.h5w_opening.specs.declared.error.OpenError.{OpenError}
 use Rattle.h5w_opening.specs.declared.error.OpenError.TheVariants as failing
 use Rattle.h5w_writer.specs.Creations.{IsCreated}
-use Rattle.h5w_form.specs.NewFiles.{new_file}
+use Rattle.h5w_creation.specs.NewFiles.{new_file}
 use Rattle.h5w_writer.specs.Openings.{opened_log}
 use Rattle.h5w_writer.specs.Sessions.{Session}
 use Rattle.h5w_writer.specs.Stands.{Stands}
