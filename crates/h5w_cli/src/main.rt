@@ -4,7 +4,7 @@
 use h5w_commands::{FileDisk, StdSink, StdSource, run};
 use h5w_image::OpenGate;
 use h5w_running::Ended;
-use h5w_text::{Status, say};
+use h5w_text::{ErrorLine, say_line};
 use std::alloc::AllocError;
 use std::env;
 use std::io::ErrorKind;
@@ -34,7 +34,7 @@ fn main(rt: HostRuntime) -> ExitCode {
             &mut disk,
             &OpenGate,
         ),
-        Err(_) => Ended::With(say(b"error memory\n", Status::Memory, &mut sink)),
+        Err(_) => Ended::With(say_line(&ErrorLine::Memory, &mut sink)),
     };
     ExitCode::from(ended.number())
 }

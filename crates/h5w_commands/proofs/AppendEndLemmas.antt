@@ -24,7 +24,7 @@ use Rattle.h5w_batches.specs.Inputs.{AreFirst, AreWithin, input_limit}
 use Rattle.h5w_files.specs.Ends.{EndsBehind, status_by}
 use Rattle.h5w_files.specs.Images.{told_bytes}
 use Rattle.h5w_files.proofs.ClearLemmas.{any_told}
-use Rattle.h5w_header_laws.specs.Files.{chunk_0}
+use Rattle.h5w_step_laws.specs.Files.{chunk_0}
 use Rattle.h5w_several_open.specs.declared.beginning.Beginning.{Beginning}
 use Rattle.h5w_several_open.proofs.BeginningLemmas.{begun_dataset}
 use Rattle.h5w_commands.specs.Appending.{AppendEndsWell, HasInput, HasRows}
@@ -106,6 +106,7 @@ input_ends t first b h same source (errors.Input limit) r =
     let long = subst (λ (o : Option (List ℕ)). IfSome o (AreWithin r.2.lines)) h.given r.2.long in
     let over = long.0 in let bound = h.bound in absurd (omega (arith, over, bound))
 input_ends t first b h same source errors.Disk r = absurd r
+input_ends t first b h same source errors.Image r = absurd r
 input_ends t first b h same source errors.Source r = absurd (source r.0)
 input_ends t first b h same source errors.Memory r = inr refl
 

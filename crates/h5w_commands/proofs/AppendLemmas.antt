@@ -11,6 +11,7 @@ use Rattle.h5w_appending.specs.Appends.{AppendEnds}
 use Rattle.h5w_appending.specs.Tells.{TellsEnd}
 use Rattle.h5w_appending.proofs.TellLemmas.{tells_end}
 use Rattle.h5w_several_appending.specs.Tells.{SeveralTells}
+use Rattle.h5w_several_appending.proofs.OuterLemmas.{several_tells_end}
 use Rattle.h5w_several_open.specs.declared.beginning.Beginning.{Beginning}
 use Rattle.h5w_commands.specs.Appending.{AppendTells, AppendTellsInside, AppendTellsWhole, only_of}
 use Rattle.h5w_commands.proofs.AppendEndLemmas.{appends_nothing, appends_whole}
@@ -25,9 +26,9 @@ none_appended by s v k l file (name ∷ other ∷ names) limit budget keeps stat
 
 pub append_told : (by : Beginning) (s t : SourceView) (k l : SinkView) (v w : DiskView) (file : List ℕ) (names : List (List ℕ)) (limit budget : ℕ) (keeps : Bool) (status : Status) → AppendTellsInside by file names limit budget keeps s t v w status k l
     → AppendTells by file names limit s t v w status k l
-append_told by s t k l v w file [] limit budget keeps status told = told
+append_told by s t k l v w file [] limit budget keeps status told = several_tells_end file [] limit status told
 append_told by s t k l v w file (name ∷ []) limit budget keeps status told = tells_end file name limit budget keeps status told
-append_told by s t k l v w file (name ∷ other ∷ names) limit budget keeps status told = told
+append_told by s t k l v w file (name ∷ other ∷ names) limit budget keeps status told = several_tells_end file (name ∷ other ∷ names) limit status told
 
 pub append_whole : (by : Beginning) (s t : SourceView) (k l : SinkView) (v w : DiskView) (file : List ℕ) (names : List (List ℕ)) (limit budget : ℕ) (keeps : Bool) (status : Status) → AppendTellsInside by file names limit budget keeps s t v w status k l
     → AppendTellsWhole by file names status s t k l v w

@@ -11,6 +11,7 @@ use Rattle.h5w_text.specs.declared.error.ErrorLine.TheVariants as errors
 use Rattle.h5w_text.specs.declared.status.Status.{Status}
 use Rattle.h5w_words.specs.declared.job.Job.{Job}
 use Rattle.h5w_words.specs.declared.job.Job.TheVariants.{Play, New, Check, Poll, Clear, Make, Append, Live, Stop, Repack}
+use Rattle.h5w_repacking.proofs.TellLemmas.{repack_tells}
 use Rattle.h5w_running.specs.Runs.{asked_by}
 use Rattle.h5w_running.specs.declared.ended.Ended.{Ended}
 use Rattle.h5w_running.specs.declared.ended.Ended.TheVariants as ends
@@ -46,6 +47,7 @@ line_told o lines number line errors.NoColumns h = absurd h
 line_told o lines number line (errors.Same one other) h = absurd h
 line_told o lines number line errors.Deep h = absurd h
 line_told o lines number line errors.Disk h = absurd h
+line_told o lines number line errors.Image h = absurd h
 line_told o lines number line (errors.Input limit) h = absurd h
 line_told o lines number line errors.Source h = absurd h
 
@@ -74,6 +76,7 @@ stop_refused o s t errors.NoColumns h = absurd h
 stop_refused o s t (errors.Same one other) h = absurd h
 stop_refused o s t errors.Deep h = absurd h
 stop_refused o s t errors.Disk h = absurd h
+stop_refused o s t errors.Image h = absurd h
 
 stop_comes : (o : Options) (s t : SourceView) (r : Result (List Run) ErrorLine) (text : List ℕ) → StopsTo o s t r text → StopsBy LacksRoom o s t r text
 stop_comes o s t (Ok report) text h = h
@@ -94,7 +97,7 @@ does_told (Make count seed) status s t k l v w does = does
 does_told (Append file names limit budget keeps takes) status s t k l v w does = append_told (beginning_of takes) s t k l v w file names limit budget keeps status does
 does_told (Live options readers polls attempts mirrors) status s t k l v w does = absurd does
 does_told (Stop options) status s t k l v w does = (stop_tells options status s t does.0, does.1)
-does_told (Repack file to names limit ranges) status s t k l v w does = does
+does_told (Repack file to names limit ranges) status s t k l v w does = (does.0, repack_tells {v = v} {w = w} {k = k} {l = l} file to names limit ranges status does.1)
 
 ended_told : (job : Job) (ended : Ended) (s t : SourceView) (k l : SinkView) (v w : DiskView) → EndsWith (λ status. DoesInside job status s t k l v w) ended → EndsWith (λ status. Does job status s t k l v w) ended
 ended_told job (ends.With status) s t k l v w does = does_told job status s t k l v w does

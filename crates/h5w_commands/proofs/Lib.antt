@@ -1,14 +1,14 @@
-pub mod PlayLemmas
-pub mod TellLemmas
-pub mod CompleteLemmas
-pub mod MakeLemmas
-pub mod AppendEndLemmas
-pub mod SeveralEndLemmas
-pub mod AppendLemmas
-pub mod ShowingLemmas
-pub mod WritingLemmas
-pub mod TakingLemmas
-pub mod ReportLemmas
-pub mod InsideLemmas
-pub mod NewLemmas
-pub mod NameLemmas
+mod PlayLemmas
+mod TellLemmas
+mod CompleteLemmas
+mod MakeLemmas
+mod AppendEndLemmas
+mod SeveralEndLemmas
+mod AppendLemmas
+mod ShowingLemmas
+mod WritingLemmas
+mod TakingLemmas
+mod ReportLemmas
+mod InsideLemmas
+mod NewLemmas
+mod NameLemmas

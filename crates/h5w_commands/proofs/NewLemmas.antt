@@ -7,7 +7,7 @@ use Rattle.std.proofs.lemmas.Cmp.{nat_list_eq_equiv}
 use Rattle.h5w_creation.specs.Forms.{created_by}
 use Rattle.h5w_creation.specs.declared.form.Form.{Form}
 use Rattle.h5w_options.specs.declared.options.Options.{Options}
-use Rattle.h5w_form.specs.NewFiles.{new_file}
+use Rattle.h5w_creation.specs.NewFiles.{new_file}
 use Rattle.h5w_several_creation.specs.Forms.{AreNames, HasRoom, all_by}
 use Rattle.h5w_several_creation_laws.specs.SeveralFiles.{AllNamed}
 use Rattle.h5w_input.specs.Scripts.{is_word}

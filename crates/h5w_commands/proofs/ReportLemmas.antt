@@ -17,7 +17,7 @@ use Rattle.h5w_model.specs.declared.refusal.ReadError.TheVariants.{NotHdf5}
 use Rattle.h5w_laws.proofs.LogLemmas.{length_hist}
 use Rattle.h5w_creation_laws.specs.CreatedFiles.{CreatedFile, block_write, created_blocks, created_writes, header_block, index_blocks, root_block, super_block}
 use Rattle.h5w_creation_laws.proofs.BornLemmas.{created_born}
-use Rattle.h5w_form.specs.NewFiles.{new_file}
+use Rattle.h5w_creation.specs.NewFiles.{new_file}
 use Rattle.h5w_writer.proofs.LawLemmas.{standing_laws}
 use Rattle.h5w_options.specs.declared.options.Options.{Options}
 use Rattle.h5w_input.specs.Lines.{lines_of, whole_lines_of}
@@ -231,6 +231,7 @@ known_end o s t (Err errors.NoColumns) text c h source = absurd c.0
 known_end o s t (Err (errors.Same one other)) text c h source = absurd c.0
 known_end o s t (Err errors.Deep) text c h source = absurd c.0
 known_end o s t (Err errors.Disk) text c h source = absurd c.0
+known_end o s t (Err errors.Image) text c h source = absurd c.0
 
 pub stops_whole : {s t : SourceView} {k l : SinkView} (o : Options) (status : Status) → StopEnds o status s t k l → StopEndsWell o status s t k l
 stops_whole {s} {t} {k} {l} o status e = λ h source sink. go h source sink e.said

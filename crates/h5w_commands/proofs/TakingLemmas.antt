@@ -85,6 +85,7 @@ refused_by o lines number line bytes (errors.Same one other) spelled h = absurd 
 refused_by o lines number line bytes errors.Deep spelled h = absurd h
 refused_by o lines number line bytes (errors.Input limit) spelled h = absurd h
 refused_by o lines number line bytes errors.Disk spelled h = absurd h
+refused_by o lines number line bytes errors.Image spelled h = absurd h
 refused_by o lines number line bytes errors.Source spelled h = absurd h
 
 pub refused_line : {A : Type 0} (o : Options) (lines : List Line) (number : ℕ) (old : WorldView) (text : text_lines.TextLine) (whole : List ℕ) (columns : ℕ) (line : ScriptLine) (r : Result A ErrorLine) → Follows o lines old → text ≡ Whole whole
@@ -224,6 +225,7 @@ ended_at_line {v} {u} {w} {world} {number} o t line e x room given h = go e h
     go errors.Deep h = absurd h.2
     go (errors.Input limit) h = absurd h.2
     go errors.Disk h = absurd h.2
+    go errors.Image h = absurd h.2
     go errors.Source h = absurd h.2
 
 -- a line with an end, or without one

@@ -12,7 +12,7 @@ use Rattle.h5w_model.specs.declared.reply.Reply.TheVariants as replies
 use Rattle.h5w_space.specs.declared.Full.{Full}
 use Rattle.h5w_creation_laws.specs.CreatedFiles.{created_log}
 use Rattle.h5w_writer.specs.Creations.{log_of}
-use Rattle.h5w_form.specs.NewFiles.{new_file}
+use Rattle.h5w_creation.specs.NewFiles.{new_file}
 use Rattle.h5w_writer.specs.Refusals.{IsFullFor}
 use Rattle.h5w_writer.proofs.LawLemmas.{standing_laws}
 use Rattle.h5w_options.specs.declared.options.Options.{Options}

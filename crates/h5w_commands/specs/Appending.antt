@@ -24,6 +24,7 @@ use Rattle.h5w_several_batches.specs.SetLines.{set_line_of, used_after}
 use Rattle.h5w_several_batches.specs.declared.line.SetLine.{SetLine}
 use Rattle.h5w_several_batches.specs.declared.line.SetLine.TheVariants.{Numbers, Use}
 use Rattle.h5w_several_appending.specs.Taken.{columns_of}
+use Rattle.h5w_several_appending.specs.Ends.{SeveralTellsEnd}
 use Rattle.h5w_several_appending.specs.Tells.{SeveralTells}
 
 -- how a session begins: it takes the file over where that is asked for
@@ -95,9 +96,9 @@ only_of names = None
 -- what an append leaves: to the dataset of one name, or to those of several
 abbrev pub AppendTells : Beginning → List ℕ → List (List ℕ) → (limit : ℕ) → SourceView → SourceView → DiskView → DiskView → Status → SinkView → SinkView → Type 0
 AppendTells by file (name ∷ []) limit s t v w status k l = TellsEnd by file name limit s t v w status k l
-AppendTells by file names limit s t v w status k l = SeveralTells by file names limit s t v w status k l
+AppendTells by file names limit s t v w status k l = SeveralTellsEnd by file names limit s t v w status k l
 
--- the same, told of one name by the state of the session, too
+-- the same by the state of the session, too
 abbrev pub AppendTellsInside : Beginning → List ℕ → List (List ℕ) → (limit budget : ℕ) → Bool → SourceView → SourceView → DiskView → DiskView → Status → SinkView → SinkView → Type 0
 AppendTellsInside by file (name ∷ []) limit budget keeps s t v w status k l = AppendEnds by file name limit budget keeps s t v w status k l
 AppendTellsInside by file names limit budget keeps s t v w status k l = SeveralTells by file names limit s t v w status k l

@@ -2,7 +2,7 @@
 use Rattle.std.specs.Prelude.{ℕ, List, map}
 use Rattle.h5w_options.specs.declared.options.Options.{Options}
 use Rattle.h5w_creation_laws.specs.CreatedFiles.{CreatedFile}
-use Rattle.h5w_form.specs.NewFiles.{new_file}
+use Rattle.h5w_creation.specs.NewFiles.{new_file}
 
 -- a dataset by these options under each of the names
 abbrev pub files_of : List (List ℕ) → Options → List CreatedFile

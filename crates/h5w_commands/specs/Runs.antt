@@ -16,6 +16,7 @@ use Rattle.h5w_files.specs.Checks.{CheckEnds, check_of}
 use Rattle.h5w_files.specs.Polls.{PollEnds, poll_of}
 use Rattle.h5w_files.specs.Clears.{ClearEnds, clears_of}
 use Rattle.h5w_repacking.specs.Repacks.{RepackEnds, RepackEndsWell}
+use Rattle.h5w_repacking.specs.Tells.{RepackTells}
 use Rattle.h5w_words.specs.declared.job.Job.{Job}
 use Rattle.h5w_words.specs.declared.job.Job.TheVariants.{Play, New, Check, Poll, Clear, Make, Append, Live, Stop, Repack}
 use Rattle.h5w_running.specs.Runs.{asked_by}
@@ -44,9 +45,10 @@ Does (Make count seed) status s t k l v w = (t ≡ s) × (w ≡ v) × MakeEnds c
 Does (Append file names limit budget keeps takes) status s t k l v w = AppendTells (beginning_of takes) file names limit s t v w status k l
 Does (Live options readers polls attempts mirrors) status s t k l v w = ⊥
 Does (Stop options) status s t k l v w = StopTells options status s t k l × (w ≡ v)
-Does (Repack file to names limit ranges) status s t k l v w = (t ≡ s) × RepackEnds file to names limit ranges v w status k l
+Does (Repack file to names limit ranges) status s t k l v w = (t ≡ s) × RepackTells file to names limit ranges v w status k l
 
--- The same, with what an append and a script of a writer alone leave told by the state of their session, too.
+-- The same, with what an append and a script of a writer alone leave told by the state of their session, and what a repack
+-- leaves by how it packs, too.
 abbrev pub DoesInside : Job → Status → SourceView → SourceView → SinkView → SinkView → DiskView → DiskView → Type 0
 DoesInside (Play names options attempts) status s t k l v w = PlayEnds names options attempts status s t k l × (w ≡ v)
 DoesInside (New file names options) status s t k l v w = (t ≡ s) × CreateEnds file (files_of names options) v w status k l

@@ -5,7 +5,7 @@ use Rattle.h5w_model.specs.Lawful.{Line}
 use Rattle.h5w_model.specs.Logs.{Log, hist}
 use Rattle.h5w_model.specs.Prefixed.{Held, Prefixed}
 use Rattle.h5w_writer.specs.Creations.{log_of}
-use Rattle.h5w_form.specs.NewFiles.{new_file}
+use Rattle.h5w_creation.specs.NewFiles.{new_file}
 use Rattle.h5w_options.specs.declared.options.Options.{Options}
 use Rattle.h5w_stop.specs.Outcomes.{AreRuns}
 use Rattle.h5w_stop.specs.Sweeps.{flush_counts, found_at, no_rows, outcome_of_run}

@@ -4,6 +4,7 @@ ghost use Rattle.h5w_batches.specs.Inputs.{SameSource};
 ghost use Rattle.h5w_words.specs.Names.{are_link_names};
 ghost use Rattle.h5w_commands.specs.Appending.{AppendTells, AppendTellsInside, AppendTellsWhole, beginning_of, only_of};
 
+use h5w_appending::Terms;
 use h5w_image::Disk;
 use h5w_names::Names;
 use h5w_several_open::Beginning;
@@ -54,12 +55,15 @@ pub fn append<S: Source, K: Sink, D: Disk>(
     ensures source { SameSource (S.view source.old) (S.view source.new) }
 {
     let by = beginning_of(takes);
+    let terms = Terms {
+        by,
+        file,
+        limit,
+        budget,
+        keeps,
+    };
     match only(names) {
-        Some(name) => h5w_appending::append(
-            alloc, by, file, name, limit, budget, keeps, source, sink, disk,
-        ),
-        None => h5w_several_appending::append(
-            alloc, by, file, names, limit, budget, keeps, source, sink, disk,
-        ),
+        Some(name) => h5w_appending::append(alloc, terms, name, source, sink, disk),
+        None => h5w_several_appending::append(alloc, terms, names, source, sink, disk),
     }
 }

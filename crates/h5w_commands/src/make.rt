@@ -4,7 +4,7 @@ ghost use Rattle.h5w_make.specs.Makes.{IsMade};
 ghost use Rattle.h5w_commands.specs.Makes.{MakeEnds, MakeEndsWell, made_line};
 
 use h5w_make::{Made, make as make_file};
-use h5w_text::{OutOfMemory, Sink, Status, say, write_numbers, write_words};
+use h5w_text::{ErrorLine, OutOfMemory, Sink, Status, say, say_line, write_numbers, write_words};
 use std::alloc::Global;
 
 /// The line of a file that was made.
@@ -40,6 +40,6 @@ pub fn make<K: Sink>(alloc: Global, count: u64, seed: u64, sink: &mut K) -> Stat
 {
     match made(alloc, count, seed) {
         Ok(line) => say(&line, Status::Done, sink),
-        Err(OutOfMemory) => say(b"error memory\n", Status::Memory, sink),
+        Err(OutOfMemory) => say_line(&ErrorLine::Memory, sink),
     }
 }

@@ -8,7 +8,7 @@ ghost use Rattle.h5w_words.specs.Names.{are_names};
 ghost use Rattle.h5w_commands.specs.News.{files_of};
 
 use h5w_appending::create;
-use h5w_form::form_of;
+use h5w_creation::form_of;
 use h5w_image::Disk;
 use h5w_names::Names;
 use h5w_options::Options;

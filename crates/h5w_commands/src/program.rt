@@ -7,7 +7,7 @@ ghost use Rattle.h5w_commands.specs.Runs.{Ran, RanInside, RanWhole};
 use crate::plain::plain;
 use h5w_image::{Disk, Gate};
 use h5w_running::{Ended, run_live};
-use h5w_text::{Sink, Source, Status, say};
+use h5w_text::{ErrorLine, Sink, Source, say_line};
 use h5w_words::{Job, WordsError, read_words};
 use std::alloc::Global;
 use std::sync::Wait;
@@ -50,7 +50,7 @@ pub fn run<R: Threads + Wait + Sync, S: Source, K: Sink, D: Disk, G: Gate>(
             release(job);
             Ended::With(status)
         }
-        Err(WordsError::Usage) => Ended::With(say(b"error usage\n", Status::Usage, sink)),
-        Err(WordsError::OutOfMemory) => Ended::With(say(b"error memory\n", Status::Memory, sink)),
+        Err(WordsError::Usage) => Ended::With(say_line(&ErrorLine::Usage, sink)),
+        Err(WordsError::OutOfMemory) => Ended::With(say_line(&ErrorLine::Memory, sink)),
     }
 }

@@ -26,7 +26,7 @@ use Rattle.h5w_batches.proofs.AnswerLemmas.{completes_of, at_told}
 use Rattle.h5w_live.specs.Writing.{IsFullAt, cutting_for, first_refused}
 use Rattle.h5w_live.specs.declared.report.LiveReport.{LiveReport}
 use Rattle.h5w_running.specs.Runs.{Asked, Halts, HaltsBy, LacksRoomAt, Refuses, RefusesBy, Tells}
-use Rattle.h5w_running.specs.Ends.{ComesBy, ComesTo, Ends, HasRows, LiveEnds, LiveEndsWell, LiveTells, broken, ended_by, image_text, written}
+use Rattle.h5w_running.specs.Ends.{ComesBy, ComesTo, Ends, HasRows, LiveEnds, LiveEndsWell, LiveTells, broken, ended_by, written}
 use Rattle.h5w_running.specs.declared.ended.Ended.{Ended}
 use Rattle.h5w_running.specs.declared.ended.Ended.TheVariants as ends
 use Rattle.h5w_running.specs.declared.refusal.Refusal.{Refusal}
@@ -50,11 +50,13 @@ error_ends a e status h (inr said) =
     record { answer = Err (Error errors.Memory); text = error_text errors.Memory; comes = (tt, refl); ended = said_ends (error_text errors.Memory) statuses.Memory status said }
 
 -- a failed image
-pub image_ends : {s t : SourceView} {k l : SinkView} (a : Asked) (worn : SeatView) → Refuses a s t (Image worn) → Gave image_text k l → LiveEnds a (ends.Image worn) s t k l
-image_ends a worn h gave = record { answer = Err (Image worn); text = image_text; comes = (h, refl); ended = written refl gave }
+pub image_ends : {s t : SourceView} {k l : SinkView} (a : Asked) (worn : SeatView) (status : Status) → Refuses a s t (Image worn) → (status ≡ statuses.Sink → ⊥) → Said (error_text errors.Image) statuses.Disk status k l → LiveEnds a (ends.Image worn) s t k l
+image_ends a worn status h up (whole is gave) = record { answer = Err (Image worn); text = error_text errors.Image; comes = (h, refl); ended = written refl gave }
+image_ends a worn status h up (failed is rose some) = absurd (up is)
 
-pub image_breaks : {s t : SourceView} {k l : SinkView} (a : Asked) (worn : SeatView) → Refuses a s t (Image worn) → Rose k.faults l.faults → GaveSome image_text k l → LiveEnds a (ends.With statuses.Sink) s t k l
-image_breaks a worn h rose some = record { answer = Err (Image worn); text = image_text; comes = (h, refl); ended = broken refl rose some }
+pub image_breaks : {s t : SourceView} {k l : SinkView} (a : Asked) (worn : SeatView) (status : Status) → Refuses a s t (Image worn) → status ≡ statuses.Sink → Said (error_text errors.Image) statuses.Disk status k l → LiveEnds a (ends.With statuses.Sink) s t k l
+image_breaks a worn status h down (whole is gave) = let clash : statuses.Disk ≡ statuses.Sink = sym is ∙ down in absurd (cc)
+image_breaks a worn status h down (failed is rose some) = record { answer = Err (Image worn); text = error_text errors.Image; comes = (h, refl); ended = broken refl rose some }
 
 -- ---- Where nothing stands in its way
 
@@ -111,6 +113,7 @@ good a s t (Err (Error (errors.Line number))) text comes h source image = absurd
 good a s t (Err (Error (errors.Range batch index value))) text comes h source image = let why = comes.0 in absurd (not_first a why.0 _ h why.1 why.2)
 good a s t (Err (Error (errors.Input limit))) text comes h source image = absurd (not_long limit t h.has comes.0)
 good a s t (Err (Error errors.Disk)) text comes h source image = absurd comes.0.2
+good a s t (Err (Error errors.Image)) text comes h source image = absurd comes.0.2
 good a s t (Err (Error errors.Source)) text comes h source image = let why = comes.0 in absurd (source why.0)
 good a s t (Err (Error errors.Memory)) text comes h source image = inr (inr refl)
 good a s t (Err (Image worn)) text comes h source image = absurd (image worn refl)
@@ -171,6 +174,7 @@ halts_told f most bs (Error errors.Deep) h = absurd h
 halts_told f most bs (Error (errors.Line n)) h = absurd h
 halts_told f most bs (Error (errors.Input limit)) h = absurd h
 halts_told f most bs (Error errors.Disk) h = absurd h
+halts_told f most bs (Error errors.Image) h = absurd h
 halts_told f most bs (Error errors.Source) h = absurd h
 
 refuses_told : (a : Asked) (s t : SourceView) (e : Refusal) → Refuses a s t e → RefusesBy LacksRoomAt a s t e
@@ -195,6 +199,7 @@ refuses_told a s t (Error errors.NoColumns) h = (h.0, h.1, halts_told a.file a.m
 refuses_told a s t (Error (errors.Same one other)) h = (h.0, h.1, halts_told a.file a.most h.0 (Error (errors.Same one other)) h.2)
 refuses_told a s t (Error errors.Deep) h = (h.0, h.1, halts_told a.file a.most h.0 (Error errors.Deep) h.2)
 refuses_told a s t (Error errors.Disk) h = (h.0, h.1, halts_told a.file a.most h.0 (Error errors.Disk) h.2)
+refuses_told a s t (Error errors.Image) h = (h.0, h.1, halts_told a.file a.most h.0 (Error errors.Image) h.2)
 refuses_told a s t (Image worn) h = (h.0, h.1, halts_told a.file a.most h.0 (Image worn) h.2)
 
 comes_told : (a : Asked) (s t : SourceView) (r : Result LiveReport Refusal) (text : List ℕ) → ComesTo a s t r text → ComesBy LacksRoomAt a s t r text

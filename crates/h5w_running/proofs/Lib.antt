@@ -1,3 +1,3 @@
-pub mod TextLemmas
-pub mod RunLemmas
+mod TextLemmas
+mod RunLemmas
 pub mod EndLemmas

@@ -1,10 +1,11 @@
 -- How the command that runs a writer and its readers in threads ends.
-use Rattle.std.specs.Prelude.{◌≡◌, ◌⊎◌, ℕ, List, [], ◌∷◌, ◌++◌, codes, None, Result, Ok, Err}
+use Rattle.std.specs.Prelude.{◌≡◌, ◌⊎◌, ℕ, List, None, Result, Ok, Err}
 use Rattle.h5w_model.specs.Causes.{Rose}
 use Rattle.h5w_shared.specs.Seats.{SeatView}
 use Rattle.h5w_text.specs.Errors.{error_text}
 use Rattle.h5w_text.specs.Statuses.{number_of, status_of}
 use Rattle.h5w_text.specs.Streams.{Gave, GaveSome, SinkView, SourceView}
+use Rattle.h5w_text.specs.declared.error.ErrorLine.TheVariants as errors
 use Rattle.h5w_text.specs.declared.status.Status.TheVariants as statuses
 use Rattle.h5w_batches.specs.Batches.{batches_of}
 use Rattle.h5w_batches.specs.Inputs.{HasNumbers}
@@ -23,12 +24,9 @@ ended_number (ends.Image worn) = 10
 
 -- ---- An answer, its text and its end
 
-abbrev pub image_text : List ℕ
-image_text = codes "error image" ++ 10 ∷ []
-
 abbrev pub refusal_text : Refusal → List ℕ
 refusal_text (Error e) = error_text e
-refusal_text (Image worn) = image_text
+refusal_text (Image worn) = error_text errors.Image
 
 -- a report with all done, and a refusal; that of a failed image keeps its seat
 abbrev pub ended_by : Result LiveReport Refusal → Ended

@@ -6,7 +6,7 @@ use Rattle.h5w_space.specs.declared.Full.{Full}
 use Rattle.h5w_options.specs.declared.options.Options.{Options}
 use Rattle.h5w_creation_laws.specs.CreatedFiles.{CreatedFile}
 use Rattle.h5w_writer.specs.Creations.{log_of}
-use Rattle.h5w_form.specs.NewFiles.{new_file}
+use Rattle.h5w_creation.specs.NewFiles.{new_file}
 use Rattle.h5w_writer.specs.declared.refusal.AppendError.TheVariants as appends
 use Rattle.h5w_text.specs.Streams.{SourceView}
 use Rattle.h5w_text.specs.declared.error.ErrorLine.TheVariants as errors

@@ -2,7 +2,7 @@ ghost use Rattle.std.specs.Prelude.{◌≡◌};
 ghost use Rattle.h5w_running.specs.Ends.{ended_number};
 
 use h5w_shared::Worn;
-use h5w_text::Status;
+use h5w_text::{ErrorLine, Status};
 
 /// How a job ended, that of the program or one in threads.
 #[derive(Drop)]
@@ -20,7 +20,7 @@ impl Ended {
     {
         match self {
             Ended::With(status) => status.number(),
-            Ended::Image(_) => 10,
+            Ended::Image(_) => ErrorLine::Image.status().number(),
         }
     }
 }

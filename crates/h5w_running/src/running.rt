@@ -2,7 +2,7 @@
 ghost use Rattle.std.specs.Prelude.{◌≡◌, ◌+◌, ◌≤◌, ℕ, List, ℤ, IfErr, IfOk, OnOk, None};
 ghost use Rattle.h5w_options.specs.Options.{AreAttempts, AreOptions, columns_in};
 ghost use Rattle.h5w_creation_laws.specs.CreatedFiles.{CreatedFile};
-ghost use Rattle.h5w_form.specs.NewFiles.{new_file};
+ghost use Rattle.h5w_creation.specs.NewFiles.{new_file};
 ghost use Rattle.h5w_text.specs.Streams.{SourceView};
 ghost use Rattle.h5w_batches.specs.Inputs.{SameSource};
 ghost use Rattle.h5w_batches.specs.Reads.{ReadsBatches};
@@ -19,7 +19,7 @@ use h5w_batches::{BatchError, read_batches};
 use h5w_image::Gate;
 use h5w_live::{Batches, LiveError, LiveReport, live};
 use h5w_options::Options;
-use h5w_text::{ErrorLine, Sink, Source, Status, say, tell};
+use h5w_text::{ErrorLine, Sink, Source, Status, say, say_line, tell};
 use std::alloc::Global;
 use std::sync::Wait;
 use std::thread::Threads;
@@ -170,9 +170,9 @@ fn refuse<K: Sink>(alloc: Global, refusal: Refusal, sink: &mut K) -> Ended
 {
     match refusal {
         Refusal::Error(error) => Ended::With(tell(alloc, &error, sink)),
-        Refusal::Image(worn) => match sink.write(b"error image\n") {
-            Ok(()) => Ended::Image(worn),
-            Err(_) => Ended::With(Status::Sink),
+        Refusal::Image(worn) => match say_line(&ErrorLine::Image, sink) {
+            Status::Sink => Ended::With(Status::Sink),
+            _ => Ended::Image(worn),
         },
     }
 }

@@ -1,6 +1,6 @@
-pub mod RunLemmas
-pub mod CountLemmas
+mod RunLemmas
+mod CountLemmas
 pub mod FoundLemmas
 pub mod LineLemmas
-pub mod OutcomeLemmas
-pub mod PieceLemmas
+mod OutcomeLemmas
+mod PieceLemmas

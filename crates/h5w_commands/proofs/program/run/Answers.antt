@@ -12,10 +12,10 @@ returns-in-Ok-clause-inside g c = ran_job _ c.in-Ok.job _ _ _ _ _ _ _ c.in-Ok.en
 
 pub returns-in-Err-Usage-clause-inside : goal.returns-in-Err-Usage-clause-inside
 returns-in-Err-Usage-clause-inside g c =
-    ran_outside _ _ _ _ _ _ (not_wanting c.in-Err-Usage.field-0 _ c.in-Err-Usage.field-0-is c.in-Err-Usage.ensures.usage) c.say.ensures
+    ran_outside _ _ _ _ _ _ (not_wanting c.in-Err-Usage.field-0 _ c.in-Err-Usage.field-0-is c.in-Err-Usage.ensures.usage) c.say_line.ensures
 
 pub returns-in-Err-OutOfMemory-clause-inside : goal.returns-in-Err-OutOfMemory-clause-inside
-returns-in-Err-OutOfMemory-clause-inside g c = ran_wanting _ _ _ _ _ _ c.say-in-Err-OutOfMemory.ensures
+returns-in-Err-OutOfMemory-clause-inside g c = ran_wanting _ _ _ _ _ _ c.say_line-in-Err-OutOfMemory.ensures
 
 pub returns-in-Ok-Live-clause-completes : goal.returns-in-Ok-Live-clause-completes
 returns-in-Ok-Live-clause-completes g c = ran_whole _ _ _ _ _ _ _ _ (returns-in-Ok-Live-clause-inside g c)

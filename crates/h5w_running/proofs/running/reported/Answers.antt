@@ -1,4 +1,4 @@
-use Rattle.h5w_form.specs.NewFiles.{new_file}
+use Rattle.h5w_creation.specs.NewFiles.{new_file}
 use Rattle.h5w_running.proofs.running.reported.Goals as goal
 
 pub returns-in-Err-clause-halts : goal.returns-in-Err-clause-halts
