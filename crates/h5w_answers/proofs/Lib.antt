@@ -1,3 +1,3 @@
-pub mod AnsweringLemmas
-pub mod EndLemmas
+mod AnsweringLemmas
+mod EndLemmas
 pub mod OpenLemmas

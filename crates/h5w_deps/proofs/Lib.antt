@@ -1,2 +1,2 @@
-pub mod Paths
-pub mod WalkLemmas
+mod Paths
+mod WalkLemmas

@@ -1,8 +1,8 @@
 pub mod RanLemmas
-pub mod KnownLemmas
-pub mod WalkLemmas
-pub mod RootLemmas
-pub mod HeaderLemmas
-pub mod ViewLemmas
+mod KnownLemmas
+mod WalkLemmas
+mod RootLemmas
+mod HeaderLemmas
+mod ViewLemmas
 pub mod ReadingLemmas
 pub mod KindLemmas

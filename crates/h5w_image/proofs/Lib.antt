@@ -3,5 +3,5 @@ pub mod DiskLemmas
 pub mod Names
 pub mod Overwrite
 pub mod JournalLemmas
-pub mod Files
-pub mod MemoryDiskLemmas
+mod Files
+mod MemoryDiskLemmas

@@ -11,14 +11,14 @@ pub mod ReachLemmas
 pub mod ValidLemmas
 pub mod SlotLemmas
 pub mod SpliceLemmas
-pub mod SpliceReads
+mod SpliceReads
 pub mod PrefixLemmas
 pub mod DatasetReads
 pub mod PlaceLemmas
 pub mod ApartLemmas
 pub mod EndLemmas
-pub mod RangeLemmas
-pub mod TileLemmas
+mod RangeLemmas
+mod TileLemmas
 pub mod NumberLemmas
 pub mod FitLemmas
 pub mod LinkLemmas

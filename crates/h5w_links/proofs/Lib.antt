@@ -1,2 +1,2 @@
-pub mod Named
-pub mod Spelled
+mod Named
+mod Spelled

@@ -1,2 +1,2 @@
-pub mod TreeLemmas
-pub mod ReadingLemmas
+mod TreeLemmas
+mod ReadingLemmas

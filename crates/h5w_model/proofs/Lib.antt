@@ -1,4 +1,4 @@
-pub mod HeaderExamples
+mod HeaderExamples
 pub mod NumberLemmas
 pub mod IntegerLemmas
 pub mod MessageLemmas

@@ -1,6 +1,6 @@
-pub mod Pieces
-pub mod Sought
-pub mod Parts
-pub mod Listed
-pub mod Read
-pub mod Capped
+mod Pieces
+mod Sought
+mod Parts
+mod Listed
+mod Read
+mod Capped

@@ -1,4 +1,4 @@
-pub mod NameLemmas
+mod NameLemmas
 pub mod FrontLemmas
 pub mod OpeningLemmas
 pub mod WritingLemmas

@@ -1,6 +1,6 @@
-pub mod RowPieces
+mod RowPieces
 pub mod NextPlaces
 pub mod AllIn
 pub mod EarlyRows
 pub mod PieceBounds
-pub mod JoinedLemmas
+mod JoinedLemmas

@@ -1,16 +1,16 @@
-pub mod TurnLemmas
-pub mod LookLemmas
+mod TurnLemmas
+mod LookLemmas
 pub mod MomentLemmas
-pub mod RiseLemmas
+mod RiseLemmas
 pub mod BlockLemmas
 pub mod KnownLemmas
 pub mod KeyLemmas
-pub mod SpanLemmas
+mod SpanLemmas
 pub mod AttemptLemmas
 pub mod ChunkLemmas
 pub mod CellLemmas
-pub mod RangeLemmas
-pub mod PieceLemmas
+mod RangeLemmas
+mod PieceLemmas
 pub mod ValueLemmas
 pub mod CountLemmas
 pub mod DescentLemmas
@@ -21,5 +21,5 @@ pub mod BoundLemmas
 pub mod ReadLooks
 pub mod StillLemmas
 pub mod StillReads
-pub mod PartReads
+mod PartReads
 pub mod ShowingLemmas

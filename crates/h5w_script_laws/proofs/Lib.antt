@@ -1,14 +1,14 @@
-pub mod ListLemmas
+mod ListLemmas
 pub mod PutLemmas
-pub mod AnswerLemmas
+mod AnswerLemmas
 pub mod EventLemmas
-pub mod ReadLemmas
-pub mod CallLemmas
-pub mod BoundLemmas
+mod ReadLemmas
+mod CallLemmas
+mod BoundLemmas
 pub mod LookLemmas
 pub mod ScriptLemmas
 pub mod OneByOneLemmas
-pub mod LookupLemmas
-pub mod AttemptLooks
-pub mod WithinLemmas
-pub mod EndingLemmas
+mod LookupLemmas
+mod AttemptLooks
+mod WithinLemmas
+mod EndingLemmas

@@ -5,8 +5,8 @@ use Rattle.h5w_model.specs.Images.{apply, Misses}
 use Rattle.h5w_model.specs.Findings.{Used, the_superblock}
 use Rattle.h5w_model.specs.declared.root.Super.{Super}
 use Rattle.h5w_model.specs.declared.piece.Write.{Write}
-use Rattle.h5w_visit_laws.specs.Ranges.{Among, AreApart, Disjoint, MissesBlocks}
-use Rattle.h5w_visit_laws.proofs.RangeLemmas.{among_left, among_right, among_split}
+use Rattle.h5w_step_laws.specs.Ranges.{Among, AreApart, Disjoint, MissesBlocks}
+use Rattle.h5w_step_laws.proofs.RangeLemmas.{among_left, among_right, among_split}
 use Rattle.h5w_step_laws.specs.Moments.{Moment, all_used, Represents}
 use Rattle.h5w_step_laws.specs.Steps.{Commits, Step, Switches, Unseen, unseen, ends, switches, commits}
 use Rattle.h5w_step_laws.specs.Plans.{Flush}

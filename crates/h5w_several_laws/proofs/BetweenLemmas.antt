@@ -11,11 +11,11 @@ use Rattle.h5w_model.specs.declared.piece.Write.{Write}
 use Rattle.h5w_model.specs.declared.root.Super.{Super}
 use Rattle.h5w_model.proofs.ImageLemmas.{image-append}
 use Rattle.h5w_laws.proofs.AnswerLemmas.{same_ok}
-use Rattle.h5w_visit_laws.specs.Ranges.{Among, AllAmong}
-use Rattle.h5w_visit_laws.proofs.HeaderLaws.{root_places}
-use Rattle.h5w_visit_laws.proofs.RangeLemmas.{among_left, among_right, among_split}
+use Rattle.h5w_step_laws.specs.Ranges.{Among, AllAmong}
+use Rattle.h5w_step_laws.proofs.HeaderLaws.{root_places}
+use Rattle.h5w_step_laws.proofs.RangeLemmas.{among_left, among_right, among_split}
 use Rattle.h5w_space.specs.Space.{Space}
-use Rattle.h5w_header_laws.specs.Files.{commit_at}
+use Rattle.h5w_step_laws.specs.Files.{commit_at}
 use Rattle.h5w_step_laws.specs.Moments.{Moment, Represents}
 use Rattle.h5w_step_laws.specs.Steps.{OffAll, Step, commits, ends, switches, unseen}
 use Rattle.h5w_step_laws.specs.Plans.{Flush, Plan, UnseenRange}

@@ -6,8 +6,8 @@ use Rattle.h5w_model.specs.Images.{apply}
 use Rattle.h5w_model.specs.Datasets.{Described}
 use Rattle.h5w_model.specs.Findings.{Used, the_superblock}
 use Rattle.h5w_model.specs.declared.piece.Write.{Write}
-use Rattle.h5w_visit_laws.specs.Ranges.{Among, AllAmong, AreApart}
-use Rattle.h5w_visit_laws.proofs.RangeLemmas.{among_left, among_right, among_split}
+use Rattle.h5w_step_laws.specs.Ranges.{Among, AllAmong, AreApart}
+use Rattle.h5w_step_laws.proofs.RangeLemmas.{among_left, among_right, among_split}
 use Rattle.h5w_step_laws.specs.Moments.{Moment, moved_of, Represents}
 use Rattle.h5w_step_laws.specs.Steps.{OffAll, Step, unseen, ends, switches, commits}
 use Rattle.h5w_step_laws.proofs.GoesLemmas.{holds_behind, moved_front, off_joined, step_misses}

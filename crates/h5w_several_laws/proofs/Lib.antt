@@ -1,9 +1,9 @@
 pub mod BesideLemmas
-pub mod HeldLemmas
+mod HeldLemmas
 pub mod SettledLemmas
 pub mod SeenLemmas
 pub mod DueLemmas
-pub mod OtherLemmas
+mod OtherLemmas
 pub mod TurnLemmas
 pub mod BetweenLemmas
 pub mod TogetherLemmas

@@ -4,10 +4,10 @@ use Rattle.h5w_model.specs.Images.{apply, image}
 use Rattle.h5w_model.specs.Findings.{Used, the_superblock}
 use Rattle.h5w_model.specs.declared.cell.Key.{Key}
 use Rattle.h5w_model.specs.declared.piece.Write.{Write}
-use Rattle.h5w_visit_laws.specs.Ranges.{Among, AreApart}
-use Rattle.h5w_visit_laws.proofs.RangeLemmas.{among_left, among_right, among_split}
+use Rattle.h5w_step_laws.specs.Ranges.{Among, AreApart}
+use Rattle.h5w_step_laws.proofs.RangeLemmas.{among_left, among_right, among_split}
 use Rattle.h5w_space.specs.Space.{Space, IsLive}
-use Rattle.h5w_header_laws.specs.Files.{LayoutInChunk0}
+use Rattle.h5w_step_laws.specs.Files.{LayoutInChunk0}
 use Rattle.h5w_step_laws.specs.Moments.{Moment, all_used, Represents}
 use Rattle.h5w_step_laws.specs.Steps.{OffAll}
 use Rattle.h5w_step_laws.specs.Plans.{Flush}

@@ -15,11 +15,11 @@ use Rattle.h5w_laws.proofs.AnswerLemmas.{same_ok}
 use Rattle.h5w_laws.proofs.FitLemmas.{free_fit}
 use Rattle.h5w_laws.proofs.ResultLemmas.{and_then_from}
 use Rattle.h5w_laws.proofs.SeveralLemmas.{finds_all}
-use Rattle.h5w_visit_laws.specs.Ranges.{AllEndBy, Among, AreApart, Disjoint, block_at}
-use Rattle.h5w_visit_laws.proofs.HeaderLaws.{header_tells, root_parts}
-use Rattle.h5w_visit_laws.proofs.HeaderVisits.{ranges_from, used_of}
-use Rattle.h5w_visit_laws.proofs.OverlapLemmas.{overlap_laws}
-use Rattle.h5w_visit_laws.proofs.RangeLemmas.{among_left, among_split}
+use Rattle.h5w_step_laws.specs.Ranges.{AllEndBy, Among, AreApart, Disjoint, block_at}
+use Rattle.h5w_step_laws.proofs.HeaderLaws.{header_tells, root_parts}
+use Rattle.h5w_step_laws.proofs.HeaderVisits.{ranges_from, used_of}
+use Rattle.h5w_step_laws.proofs.OverlapLemmas.{overlap_laws}
+use Rattle.h5w_step_laws.proofs.RangeLemmas.{among_left, among_split}
 use Rattle.h5w_step_laws.specs.Moments.{Moment, Represents}
 use Rattle.h5w_step_laws.specs.Steps.{OffAll, Step}
 use Rattle.h5w_step_laws.specs.Plans.{Flush}

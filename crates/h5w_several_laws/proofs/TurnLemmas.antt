@@ -5,8 +5,8 @@ use Rattle.h5w_model.specs.Images.{image}
 use Rattle.h5w_model.specs.Findings.{Used, the_superblock}
 use Rattle.h5w_model.specs.declared.root.Super.{Super}
 use Rattle.h5w_model.specs.declared.piece.Write.{Write}
-use Rattle.h5w_visit_laws.specs.Ranges.{Among, AllAmong, AllEndBy, AreApart, Disjoint}
-use Rattle.h5w_visit_laws.proofs.RangeLemmas.{among_left, among_right, among_split, some_joined}
+use Rattle.h5w_step_laws.specs.Ranges.{Among, AllAmong, AllEndBy, AreApart, Disjoint}
+use Rattle.h5w_step_laws.proofs.RangeLemmas.{among_left, among_right, among_split, some_joined}
 use Rattle.h5w_space.specs.Space.{Space, IsLive}
 use Rattle.h5w_step_laws.specs.Moments.{Moment, all_used, moved_of, Represents}
 use Rattle.h5w_step_laws.specs.Steps.{OffAll}

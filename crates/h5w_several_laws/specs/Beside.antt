@@ -2,7 +2,7 @@
 use Rattle.std.specs.Prelude.{◌≡◌, ℕ, ◌<◌, false, List, ◌++◌, map}
 use Rattle.h5w_model.specs.Findings.{Used}
 use Rattle.h5w_model.specs.declared.piece.Write.{Write}
-use Rattle.h5w_visit_laws.specs.Ranges.{Among, AllEndBy, Disjoint}
+use Rattle.h5w_step_laws.specs.Ranges.{Among, AllEndBy, Disjoint}
 use Rattle.h5w_step_laws.specs.Moments.{Moment, all_used, moved_of, Represents}
 use Rattle.h5w_step_laws.specs.Steps.{OffAll, Step}
 use Rattle.h5w_step_laws.specs.Plans.{Plan, Flush}

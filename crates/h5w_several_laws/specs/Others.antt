@@ -3,7 +3,7 @@ use Rattle.std.specs.Prelude.{◌≡◌, ℕ, ◌<◌, false, List}
 use Rattle.h5w_model.specs.Images.{image}
 use Rattle.h5w_model.specs.Findings.{Used}
 use Rattle.h5w_model.specs.declared.cell.Key.{Key}
-use Rattle.h5w_visit_laws.specs.Ranges.{Among}
+use Rattle.h5w_step_laws.specs.Ranges.{Among}
 use Rattle.h5w_space.specs.Space.{Space}
 use Rattle.h5w_step_laws.specs.Moments.{Moment}
 use Rattle.h5w_step_laws.specs.Steps.{OffAll}

@@ -5,7 +5,7 @@ use Rattle.h5w_model.specs.Logs.{Log}
 use Rattle.h5w_model.specs.Findings.{Used}
 use Rattle.h5w_model.specs.declared.cell.Key.{Key}
 use Rattle.h5w_space.specs.Space.{Space}
-use Rattle.h5w_header_laws.specs.Files.{LayoutInChunk0}
+use Rattle.h5w_step_laws.specs.Files.{LayoutInChunk0}
 use Rattle.h5w_step_laws.specs.Moments.{Moment}
 use Rattle.h5w_step_laws.specs.Logs.{Goes, image_now}
 use Rattle.h5w_flush_laws.specs.Knowledge.{IsMap}

@@ -1,0 +1,4 @@
+pub mod AloneLemmas
+mod RowLemmas
+pub mod SetLemmas
+pub mod PolledLemmas
