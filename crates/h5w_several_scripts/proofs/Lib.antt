@@ -1,4 +1,0 @@
-pub mod AloneLemmas
-pub mod RowLemmas
-pub mod SetLemmas
-pub mod PolledLemmas

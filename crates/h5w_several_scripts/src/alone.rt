@@ -1,9 +1,0 @@
-//! A file with one dataset.
-
-ghost use Rattle.h5w_several_scripts.specs.Alone.{OneDatasetLaws};
-
-/// Over one dataset the same replies are lawful as in a script of one dataset, and no others.
-#[tactic(auto, using(crate::proofs::AloneLemmas::one_dataset_laws))]
-pub fn one_dataset()
-    ensures { OneDatasetLaws }
-{}
