@@ -5,7 +5,7 @@ use Rattle.h5w_model.specs.Images.{At, Misses, apply, image}
 use Rattle.h5w_model.specs.Arrays.{EahdFields, eahd_at, eahd_len}
 use Rattle.h5w_model.specs.Programs.{eval, visits}
 use Rattle.h5w_model.specs.Datasets.{Described}
-use Rattle.h5w_model.specs.Tables.{address_behind, in_place}
+use Rattle.h5w_model.specs.Tables.{address_behind, in_place, format_limits}
 use Rattle.h5w_model.specs.declared.cell.Key.{Key}
 use Rattle.h5w_model.specs.declared.cell.IndexKind.TheVariants.{Array}
 use Rattle.h5w_model.specs.declared.piece.Write.{Write}
@@ -59,7 +59,7 @@ ArrayStays = (v : Store) (img : List ℕ) (w : Write) → IsArray v → StandsAr
 -- where the blocks behind those in place stand, all clean, a check behind the index block finds their ranges, and each chunk number its address
 pub record IsRead (v : Store) (img : List ℕ) : Type 0 where
   pub visited : (end bytes : ℕ) → AllEndBy end (behind_of bytes v) → eval img (behind_visit end bytes (blocks_in_place v)) ≡ Ok (behind_of bytes v)
-  pub found : (key : Key) → key.i < 131060 → eval img (address_behind (blocks_in_place v) key) ≡ Ok (map_of v key.i)
+  pub found : (key : Key) → key.i < format_limits.array → eval img (address_behind (blocks_in_place v) key) ≡ Ok (map_of v key.i)
 
 abbrev pub ArrayIsRead : Type 0
 ArrayIsRead = (v : Store) (img : List ℕ) → IsArray v → v.changed ≡ [] → BehindStands v img → IsRead v img

@@ -4,7 +4,7 @@ use Rattle.std.specs.List.{sum_by}
 use Rattle.h5w_model.specs.Numbers.{field, undefined}
 use Rattle.h5w_model.specs.Checksum.{is_sealed}
 use Rattle.h5w_model.specs.Arrays.{numbers_in, eahd_len, eaib_len, eaib_fields, eahd_bytes, eaib_bytes}
-use Rattle.h5w_model.specs.Tables.{InPlace, in_array}
+use Rattle.h5w_model.specs.Tables.{InPlace, in_array, format_limits}
 use Rattle.h5w_model.specs.Findings.{Used}
 use Rattle.h5w_step_laws.specs.Ranges.{block_at, chunk_at}
 use Rattle.h5w_cache.specs.Blocks.{BlockView}
@@ -115,7 +115,7 @@ address_in (Some b) place = field b.bytes place 8
 
 -- the address of chunk number i, undefined where it has none
 abbrev pub map_of : Store → ℕ → ℕ
-map_of v i = if nat_lt i 131060 then address_in (block_at_part v (holder i)) (slot_offset i) else undefined
+map_of v i = if nat_lt i format_limits.array then address_in (block_at_part v (holder i)) (slot_offset i) else undefined
 
 -- ---- Its ranges
 

@@ -9,8 +9,10 @@ ghost use Rattle.h5w_model.specs.Numbers.{field, le, width_of};
 
 use byteorder::{ByteOrder, LittleEndian};
 
+mod pieces;
 mod several;
 
+pub use pieces::put_pieces;
 pub use several::{put_bytes, put_each};
 
 /// The address of nothing: eight bytes ff.

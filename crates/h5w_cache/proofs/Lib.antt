@@ -1,6 +1,5 @@
 mod StoreLemmas
 pub mod PlanLemmas
-mod PieceLemmas
 pub mod PlannedLemmas
 pub mod MoveLemmas
 pub mod LawLemmas

@@ -13,4 +13,3 @@ pub use block::{Block, Link, Placement, copied};
 pub use moves::{Move, retire_all, take_place};
 pub use plan::{BlockFlush, Plan, PlanError};
 pub use store::Cache;
-pub use write::put_pieces;

@@ -7,24 +7,9 @@ ghost use Rattle.h5w_cache.specs.Plans.{IsWritten, block_in, bytes_in, piece_cou
 
 use crate::block::Block;
 use crate::moves::Move;
-use h5w_model::{OutOfMemory, PIECE, Piece, Write};
+use h5w_bytes::put_pieces;
+use h5w_model::{OutOfMemory, Write};
 use std::alloc::Global;
-
-/// Adds the writes that put some bytes at a place: pieces of 512 bytes and a rest.
-pub fn put_pieces(place: u64, bytes: &[u8], out: &mut Vec<Write>)
-    requires ends { place + length bytes.now < 2 ^ 64 }
-    requires room { vec_len out.old + (length bytes.now + 511) / 512 ≤ vec_capacity out.old }
-    ensures items { out.new.items ≡ out.old.items ++ pieces place bytes.now }
-    ensures len { vec_len out.new ≡ vec_len out.old + (length bytes.now + 511) / 512 }
-    ensures capacity { vec_capacity out.new ≡ vec_capacity out.old }
-{
-    let mut at = place;
-    for part in bytes.chunks(PIECE) {
-        let piece = Piece::of(part);
-        out.push_reserved(Write { at, piece });
-        at += part.len() as u64;
-    }
-}
 
 /// Adds the writes of a block at its place.
 fn put_block(blocks: &[Option<Block>], block_move: &Move, out: &mut Vec<Write>)

@@ -11,7 +11,9 @@ use crate::block::block;
 use crate::error::CheckError;
 use crate::ranges::{Bounds, Ranges};
 use h5w_bytes::UNDEFINED;
-use h5w_ea::{Eadb, Eahd, Eaib, Easb, first_super_block, sizes, slots_len};
+use h5w_ea::{
+    Eadb, Eahd, Eaib, Easb, FIRST_SECONDARY, SUPER_BLOCKS, first_super_block, sizes, slots_len,
+};
 use h5w_image::PieceRead;
 use h5w_model::BlockFault;
 use std::alloc::Global;
@@ -27,11 +29,6 @@ const SECONDARY_BLOCK: u8 = 12;
 
 /// A data block is refused.
 const DATA_BLOCK: u8 = 13;
-
-/// The super block of the first secondary block that the index block names, and the last that is known here.
-const FIRST_SECONDARY: u32 = 4;
-
-const LAST_SECONDARY: u32 = 12;
 
 /// The chunks of the data block of `n` slots that these bytes at `at` are.
 fn put_slots(
@@ -169,7 +166,7 @@ fn second_blocks<I: PieceRead>(
 {
     let mut sblock = FIRST_SECONDARY;
     for address in addresses {
-        if sblock > LAST_SECONDARY {
+        if sblock >= SUPER_BLOCKS {
             return Ok(());
         }
         secondary_block(alloc, image, bounds, sblock, *address, ranges)?;

@@ -10,33 +10,16 @@ ghost use Rattle.h5w_chunks.specs.Rows.{IsShare, RowsWritten};
 
 use crate::grid::{ChunkPlace, Grid};
 use crate::share::Share;
-use h5w_model::{OutOfMemory, PIECE, Piece, Write};
+use h5w_bytes::put_pieces;
+use h5w_model::{OutOfMemory, PIECE, Write};
 
-/// Adds the write of these bytes at a place. The piece gets its bytes where it stands in the list.
-#[inline(always)]
-fn push_write(at: u64, bytes: &[u8], out: &mut Vec<Write>) -> Result<(), OutOfMemory>
-    requires { length bytes.now ≤ 512 }
-    ensures { OnOk result (out.new.items ≡ out.old.items ++ record { at = at; piece = bytes.now } ∷ []) }
-{
-    out.reserve(1)?;
-    let piece = Piece::new();
-    out.push_reserved(Write { at, piece });
-    if let Some(last) = out.last_mut() {
-        last.piece.set(bytes);
-    }
-    Ok(())
-}
-
-/// Adds the writes that put some bytes at a place: pieces of 512 bytes and a rest.
-fn put_pieces(place: u64, bytes: &[u8], out: &mut Vec<Write>) -> Result<(), OutOfMemory>
+/// Adds the writes that put some bytes at a place, and makes room for them.
+fn push_pieces(place: u64, bytes: &[u8], out: &mut Vec<Write>) -> Result<(), OutOfMemory>
     requires { place + length bytes.now < 2 ^ 64 }
     ensures { OnOk result (out.new.items ≡ out.old.items ++ pieces place bytes.now) }
 {
-    let mut at = place;
-    for part in bytes.chunks(PIECE) {
-        push_write(at, part, out)?;
-        at += part.len() as u64;
-    }
+    out.reserve(bytes.len().div_ceil(PIECE))?;
+    put_pieces(place, bytes, out);
     Ok(())
 }
 
@@ -111,7 +94,7 @@ impl Grid {
         self.put_fill(share.first * cols, &mut bytes)?;
         self.put_rows(cells, share, &mut bytes)?;
         self.put_fill((rows - share.first - share.rows) * cols, &mut bytes)?;
-        put_pieces(address, &bytes, out)
+        push_pieces(address, &bytes, out)
     }
 
     /// Adds the writes of rows that have all columns of a chunk.
@@ -129,14 +112,14 @@ impl Grid {
         ensures { OnOk result (out.new.items ≡ out.old.items ++ pieces at (share_rows (dataset_of self.now) cells.now share.now)) }
     {
         if share.columns == self.shape.cols {
-            return put_pieces(at, self.run(cells, share), out);
+            return push_pieces(at, self.run(cells, share), out);
         }
         let mut bytes = Vec::with_capacity(
             *out.allocator(),
             (share.rows * self.row_len()) as usize,
         )?;
         self.put_rows(cells, share, &mut bytes)?;
-        put_pieces(at, &bytes, out)
+        push_pieces(at, &bytes, out)
     }
 
     /// Adds the writes of rows that have a part of a chunk's columns.
@@ -154,7 +137,7 @@ impl Grid {
     {
         let mut place = at;
         for t in 0..share.rows {
-            put_pieces(place, self.row(cells, share, t), out)?;
+            push_pieces(place, self.row(cells, share, t), out)?;
             place += self.row_len();
         }
         Ok(())

@@ -45,7 +45,7 @@ pub struct Sites {
 }
 
 /// Where the root header stands, behind the superblock.
-pub const ROOT_PLACE: u64 = 48;
+pub const ROOT_PLACE: u64 = h5w_super::LEN as u64;
 
 /// How many bytes the root header has beside the dataset's name.
 const ROOT_LEN: u64 = 54;

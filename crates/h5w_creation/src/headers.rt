@@ -14,7 +14,7 @@ ghost use Rattle.h5w_creation.specs.Headers.{links_to};
 use h5w_chunks::Grid;
 use h5w_links::{encode_group_info, encode_link, encode_link_info};
 use h5w_model::{Bytes, OutOfMemory, PIECE, Piece};
-use h5w_ohdr::{Msg, Msgs};
+use h5w_ohdr::{Msg, Msgs, kind};
 use std::alloc::Global;
 
 /// The most bytes of a name.
@@ -39,7 +39,7 @@ fn link_info_message(alloc: Global) -> Result<Msg, OutOfMemory>
 {
     let mut bytes = [0; 18];
     let len = encode_link_info(&mut bytes);
-    message(alloc, 0x02, &bytes[..len])
+    message(alloc, kind::LINK_INFO, &bytes[..len])
 }
 
 /// The group info message.
@@ -48,7 +48,7 @@ fn group_info_message(alloc: Global) -> Result<Msg, OutOfMemory>
 {
     let mut bytes = [0; 2];
     let len = encode_group_info(&mut bytes);
-    message(alloc, 0x0a, &bytes[..len])
+    message(alloc, kind::GROUP_INFO, &bytes[..len])
 }
 
 /// The link of this name, of at most 255 bytes, to the header at this address (HDF5 File Format Specification, "The Link Message").
@@ -58,7 +58,7 @@ pub fn link_message(alloc: Global, name: &[u8], address: u64) -> Result<Msg, Out
 {
     let mut bytes = [0; 11 + NAME];
     let len = encode_link(name, address, &mut bytes);
-    message(alloc, 0x06, &bytes[..len])
+    message(alloc, kind::LINK, &bytes[..len])
 }
 
 /// The dataspace message.
@@ -68,7 +68,7 @@ fn shape_message(alloc: Global, grid: &Grid) -> Result<Msg, OutOfMemory>
 {
     let mut bytes = [0; 36];
     let len = grid.shape.encode(&mut bytes);
-    message(alloc, 0x01, &bytes[..len])
+    message(alloc, kind::DATASPACE, &bytes[..len])
 }
 
 /// The datatype message.
@@ -78,7 +78,7 @@ fn int_type_message(alloc: Global, grid: &Grid) -> Result<Msg, OutOfMemory>
 {
     let mut bytes = [0; 12];
     let len = grid.int_type.encode(&mut bytes);
-    message(alloc, 0x03, &bytes[..len])
+    message(alloc, kind::DATATYPE, &bytes[..len])
 }
 
 /// The fill value message.
@@ -88,7 +88,7 @@ fn fill_message(alloc: Global, grid: &Grid) -> Result<Msg, OutOfMemory>
 {
     let mut bytes = [0; 14];
     let len = grid.fill.encode(&mut bytes);
-    message(alloc, 0x05, &bytes[..len])
+    message(alloc, kind::FILL, &bytes[..len])
 }
 
 /// The layout message.
@@ -98,7 +98,7 @@ fn layout_message(alloc: Global, grid: &Grid) -> Result<Msg, OutOfMemory>
 {
     let mut bytes = [0; 44];
     let len = grid.layout.encode(&grid.shape, &grid.int_type, &mut bytes);
-    message(alloc, 0x08, &bytes[..len])
+    message(alloc, kind::LAYOUT, &bytes[..len])
 }
 
 /// The messages of a root header before its links: link info, and group info.

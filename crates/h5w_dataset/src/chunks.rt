@@ -62,7 +62,7 @@ impl Dataset {
     pub fn limit(&self) -> u64
         ensures exact { result ≡ limit_of format_limits (described_of self.now).layout.index }
         ensures few { result ≤ 1000000 }
-        ensures array { self.now.shape.growing ≡ false → result ≤ 131060 }
+        ensures array { self.now.shape.growing ≡ false → result ≤ format_limits.array }
     {
         if self.shape.growing { TREE } else { CHUNKS }
     }

@@ -15,18 +15,8 @@ use crate::dataset::Dataset;
 use crate::found::FoundMessage;
 use h5w_layout::{Fill, Layout};
 use h5w_model::Unsupported;
+use h5w_ohdr::kind::{DATASPACE, DATATYPE, FILL, FILTERS, LAYOUT};
 use h5w_types::{IntType, Shape};
-
-/// The types of messages: dataspace, datatype, fill value, layout, filter pipeline.
-const DATASPACE: u8 = 0x01;
-
-const DATATYPE: u8 = 0x03;
-
-const FILL: u8 = 0x05;
-
-const LAYOUT: u8 = 0x08;
-
-const FILTERS: u8 = 0x0b;
 
 /// The flag of a message whose data stand elsewhere.
 const SHARED: u8 = 2;

@@ -4,7 +4,7 @@ ghost use Rattle.h5w_model.specs.Blocks.{Gives};
 ghost use Rattle.h5w_model.specs.Checked.{viewed};
 
 use crate::fields::check_fixed;
-use crate::slots::{Block, FIXED, FRAME, Slots, encode};
+use crate::slots::{Block, FIXED, SLOTS_FRAME, Slots, encode};
 use h5w_model::BlockFault;
 use h5w_sum::{Front, check_block_with};
 use std::alloc::Global;
@@ -59,7 +59,14 @@ impl Eadb {
         requires slots { n ≤ 1024 }
         ensures exact { viewed (λ _. slots_fields b.now n) result ≡ eadb_at b.now at n }
     {
-        let front = check_block_with(alloc, b, &SIGNATURE, FRAME + 8 * n as usize, old, upto)?;
+        let front = check_block_with(
+            alloc,
+            b,
+            &SIGNATURE,
+            SLOTS_FRAME + 8 * n as usize,
+            old,
+            upto,
+        )?;
         check_fixed(b, at, &FIXED)?;
         Ok(front)
     }

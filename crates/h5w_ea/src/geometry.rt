@@ -1,10 +1,17 @@
 ghost use Rattle.std.specs.Prelude.{◌≡◌, ℕ, ◌+◌, ◌-◌, ◌<◌, ◌≤◌, slice_index_or};
 ghost use Rattle.h5w_model.specs.Arrays.{place_of, slot_place_of, super_block_of, super_blocks, IsSlotPlace};
+ghost use Rattle.h5w_model.specs.Tables.{format_limits};
 
 use h5w_model::Place;
 
 /// How many chunks an array has at most whose data blocks have no pages.
 pub const CHUNKS: u64 = 131_060;
+
+/// How many super blocks have data blocks without pages.
+pub const SUPER_BLOCKS: u32 = 13;
+
+/// The first super block with a secondary block; the index block names the data blocks of those before it.
+pub const FIRST_SECONDARY: u32 = 4;
 
 /// How many slots the index block has.
 const INDEX_SLOTS: u64 = 4;
@@ -30,7 +37,7 @@ pub fn super_block(s: u32) -> (u64, u64, u64)
 
 /// Where the slot of chunk number `i` stands ("The Extensible Array Index").
 pub fn place(i: u64) -> Place
-    requires { i < 131060 }
+    requires { i < format_limits.array }
     ensures exact { result ≡ place_of i }
     // Behind the first 4, the slot stands inside one of the super blocks 0 to 12, and its place counts to its number.
     ensures inside { IsSlotPlace (i - 4) (slot_place_of (i - 4)) }

@@ -31,6 +31,9 @@ impl Eaib {
     /// How many bytes it has.
     pub const LEN: usize = 298;
 
+    /// Where the slots begin.
+    pub const SLOTS: usize = 14;
+
     /// Where the addresses of the data blocks of super blocks 0 to 3 begin.
     pub const FIRST: usize = 46;
 
@@ -45,7 +48,7 @@ impl Eaib {
         check_block(b, &SIGNATURE, Eaib::LEN)?;
         check_fixed(b, at, &FIXED)?;
         let (mut slots, mut first, mut second) = ([0; 4], [0; 6], [0; 25]);
-        read_numbers(b, 14, &mut slots);
+        read_numbers(b, Eaib::SLOTS, &mut slots);
         read_numbers(b, Eaib::FIRST, &mut first);
         read_numbers(b, Eaib::SECOND, &mut second);
         Ok(Eaib {
@@ -65,7 +68,7 @@ impl Eaib {
     {
         put_head(out, &SIGNATURE, &FIXED);
         put(out, 6, 8, self.header);
-        put_numbers(out, 14, &self.slots);
+        put_numbers(out, Eaib::SLOTS, &self.slots);
         put_numbers(out, Eaib::FIRST, &self.first);
         put_numbers(out, Eaib::SECOND, &self.second);
         seal_front(out, Eaib::LEN);

@@ -4,6 +4,7 @@ ghost use Rattle.h5w_model.specs.Arrays.{slots_len, super_block_of};
 ghost use Rattle.h5w_model.specs.Tables.{super_block_of_first};
 
 use crate::geometry::super_block;
+use crate::slots::SLOTS_FRAME;
 
 /// How many data blocks a super block has, and how many slots each of them.
 #[tactic(auto, using(crate::proofs::SizeLemmas::few_blocks, crate::proofs::SizeLemmas::few_slots))]
@@ -37,5 +38,5 @@ pub fn slots_len(n: u64) -> u64
     requires { n ≤ 1024 }
     ensures { result ≡ slots_len n }
 {
-    22 + 8 * n
+    SLOTS_FRAME as u64 + 8 * n
 }

@@ -15,10 +15,10 @@ mod secondary_block;
 mod slots;
 
 pub use data_block::Eadb;
-pub use geometry::{CHUNKS, NAMED_BEFORE, place, super_block};
+pub use geometry::{CHUNKS, FIRST_SECONDARY, NAMED_BEFORE, SUPER_BLOCKS, place, super_block};
 pub use h5w_model::{BlockFault, Place};
 pub use header::Eahd;
 pub use index_block::Eaib;
 pub use lengths::{first_super_block, sizes, slots_len};
 pub use secondary_block::Easb;
-pub use slots::{Slots, slot};
+pub use slots::{FIRST_SLOT, SLOTS_FRAME, Slots, slot};

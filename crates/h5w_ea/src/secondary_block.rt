@@ -4,7 +4,7 @@ ghost use Rattle.h5w_model.specs.Blocks.{Gives};
 ghost use Rattle.h5w_model.specs.Checked.{viewed};
 
 use crate::fields::check_fixed;
-use crate::slots::{Block, FIXED, FRAME, Slots, encode};
+use crate::slots::{Block, FIXED, SLOTS_FRAME, Slots, encode};
 use h5w_model::BlockFault;
 use h5w_sum::check_block;
 use std::alloc::Global;
@@ -50,7 +50,7 @@ impl Easb {
         requires slots { n ≤ 1024 }
         ensures exact { viewed (λ _. slots_fields b.now n) result ≡ easb_at b.now at n }
     {
-        check_block(b, &SIGNATURE, FRAME + 8 * n as usize)?;
+        check_block(b, &SIGNATURE, SLOTS_FRAME + 8 * n as usize)?;
         check_fixed(b, at, &FIXED)
     }
 

@@ -14,11 +14,11 @@ use std::marker::Model;
 /// Version and client.
 pub const FIXED: [u8; 2] = [0, 0];
 
-/// Where the slots begin.
-const FIRST: usize = 18;
+/// Where the slots of a data block, or the names in a secondary block, begin.
+pub const FIRST_SLOT: usize = 18;
 
 /// How many bytes a block has beside its slots.
-pub const FRAME: usize = 22;
+pub const SLOTS_FRAME: usize = 22;
 
 /// A list of addresses; undefined is all ones.
 #[derive(Drop)]
@@ -79,10 +79,10 @@ impl Block {
         ensures exact { Gives block_of result (slots_at signature.now b.now at n) }
     {
         let n = n as usize;
-        check_block(b, signature, FRAME + 8 * n)?;
+        check_block(b, signature, SLOTS_FRAME + 8 * n)?;
         check_fixed(b, at, &FIXED)?;
         let mut addresses = vec![in alloc; 0; n]?;
-        read_numbers(b, FIRST, &mut addresses);
+        read_numbers(b, FIRST_SLOT, &mut addresses);
         Ok(Block {
             header: number(b, 6, 8),
             offset: word(b, 14),
@@ -96,7 +96,7 @@ pub fn slot(b: &[u8], i: usize) -> u64
     requires { slots_len (i + 1) ≤ length b.now }
     ensures { result ≡ field b.now (18 + 8 * i) 8 }
 {
-    number(b, FIRST + 8 * i, 8)
+    number(b, FIRST_SLOT + 8 * i, 8)
 }
 
 /// Writes a block of slots to the front of `out`, and answers its length.
@@ -113,8 +113,8 @@ pub fn encode(signature: &[u8; 4], header: u64, offset: u32, slots: &[u64], out:
     put_head(out, signature, &FIXED);
     put(out, 6, 8, header);
     put(out, 14, 4, u64::from(offset));
-    put_numbers(out, FIRST, slots);
-    let len = FRAME + 8 * slots.len();
+    put_numbers(out, FIRST_SLOT, slots);
+    let len = SLOTS_FRAME + 8 * slots.len();
     seal_front(out, len);
     len
 }

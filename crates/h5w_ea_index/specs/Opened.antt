@@ -6,6 +6,7 @@ use Rattle.h5w_model.specs.Checksum.{is_sealed}
 use Rattle.h5w_model.specs.Images.{At}
 use Rattle.h5w_model.specs.Arrays.{EahdFields, blocks_before, eahd_at, eahd_len, eaib_at, eaib_len, eadb_at, easb_at, numbers_in, slots_len, super_block_of}
 use Rattle.h5w_model.specs.declared.refusal.BlockFault.{BlockFault}
+use Rattle.h5w_model.specs.Tables.{format_limits}
 use Rattle.h5w_image.specs.View.{ImageView, Looked}
 use Rattle.h5w_image.specs.declared.fault.ImageError.{ImageError}
 use Rattle.h5w_image.specs.declared.fault.ImageError.TheVariants as image_errors
@@ -46,8 +47,8 @@ refused_on img k at = refusal_of k (range img at (length_of k)) at
 abbrev pub past : Part → ℕ
 past (data_of s b) = 4 + (super_block_of s).start + (b + 1) * (super_block_of s).slots
 past (secondary_of s) = 4 + (super_block_of s).start + (super_block_of s).blocks * (super_block_of s).slots
-past index_block = 131060
-past header = 131060
+past index_block = format_limits.array
+past header = format_limits.array
 
 -- it is this part, and ends in its sum
 pub record IsSound (k : Part) (b : BlockView) : Type 0 where

@@ -2,6 +2,7 @@
 
 ghost use Rattle.std.specs.Prelude.{◌≡◌, ◌≢◌, ◌⊎◌, ℕ, ◌+◌, ◌-◌, ◌*◌, ◌<◌, ◌≤◌, ◌^◌, true, IfSome, OnOk, length, max};
 ghost use Rattle.h5w_model.specs.Numbers.{undefined};
+ghost use Rattle.h5w_model.specs.Tables.{format_limits};
 ghost use Rattle.h5w_cache.specs.Stores.{block_of, is_changed};
 ghost use Rattle.h5w_array_laws.specs.Parts.{IsPart, holder, number_of};
 ghost use Rattle.h5w_array_laws.specs.ArrayStores.{IsArray, IsNumbered, address_in, map_of};
@@ -43,7 +44,7 @@ pub fn read(cache: &Cache, number_of_block: u32, offset: usize) -> u64
 
 /// The address of chunk number `i`, undefined where it has none.
 pub fn address(cache: &Cache, i: u64) -> u64
-    requires below { i < 131060 }
+    requires below { i < format_limits.array }
     requires array { IsArray cache.now }
     ensures { result ≡ map_of cache.now i }
 {
@@ -73,7 +74,7 @@ fn hold_holder(alloc: Global, cache: &mut Cache, holder: Holder) -> Result<(), O
 
 /// The blocks on the way to the slot of chunk number `i` are there, and changed from now on.
 pub fn hold(alloc: Global, cache: &mut Cache, i: u64) -> Result<(), OutOfMemory>
-    requires below { i < 131060 }
+    requires below { i < format_limits.array }
     requires array { IsArray cache.old }
     ensures array { IsArray cache.new }
     ensures numbered { IsNumbered cache.old → IsNumbered cache.new }
@@ -87,7 +88,7 @@ pub fn hold(alloc: Global, cache: &mut Cache, i: u64) -> Result<(), OutOfMemory>
 
 /// Chunk number `i` has this address from now on.
 pub fn set(cache: &mut Cache, i: u64, address: u64)
-    requires below { i < 131060 }
+    requires below { i < format_limits.array }
     requires array { IsArray cache.old }
     requires changed { is_changed cache.old (number_of (holder i)) ≡ true }
     requires defined { address ≢ undefined }
@@ -104,7 +105,7 @@ pub fn set(cache: &mut Cache, i: u64, address: u64)
 
 /// The max index set is above chunk number `i`, which has an address. Where it was not, header and index block are changed from now on.
 pub fn reach_chunk(cache: &mut Cache, i: u64)
-    requires below { i < 131060 }
+    requires below { i < format_limits.array }
     requires array { IsArray cache.old }
     requires defined { map_of cache.old i ≢ undefined }
     ensures array { IsArray cache.new }
@@ -124,7 +125,7 @@ pub fn reach_chunk(cache: &mut Cache, i: u64)
 
 /// One more than the greatest chunk number below `count` that has an address, 0 where none has.
 fn last_set(cache: &Cache, count: u64) -> u64
-    requires below { count ≤ 131060 }
+    requires below { count ≤ format_limits.array }
     requires array { IsArray cache.now }
     ensures above { (j : ℕ) → result ≤ j → j < count → map_of cache.now j ≡ undefined }
     ensures least { (result ≡ 0) ⊎ (map_of cache.now (result - 1) ≢ undefined) }
@@ -141,7 +142,7 @@ fn last_set(cache: &Cache, count: u64) -> u64
 
 /// Chunk number `i` has no address from now on.
 pub fn unset(cache: &mut Cache, i: u64)
-    requires below { i < 131060 }
+    requires below { i < format_limits.array }
     requires array { IsArray cache.old }
     requires changed { is_changed cache.old (number_of (holder i)) ≡ true }
     ensures array { IsArray cache.new }

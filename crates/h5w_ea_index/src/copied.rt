@@ -10,7 +10,9 @@ ghost use Rattle.h5w_ea_index.specs.Opened.{IsBlockOf, past, refusal_of};
 use crate::fresh::{data_block, data_number, links_to, secondary_block, secondary_number};
 use crate::slot::INDEX_BLOCK;
 use h5w_cache::{Block, Link, Placement};
-use h5w_ea::{Eadb, Eaib, Easb, NAMED_BEFORE, super_block};
+use h5w_ea::{
+    Eadb, Eaib, Easb, FIRST_SECONDARY, FIRST_SLOT, NAMED_BEFORE, SLOTS_FRAME, super_block,
+};
 use h5w_model::{BlockFault, OutOfMemory};
 use std::alloc::Global;
 
@@ -22,15 +24,6 @@ pub enum Copied {
     /// The secondary block of a super block.
     Secondary { sblock: u32 },
 }
-
-/// How many super blocks have their data blocks' addresses in the index block.
-const DIRECT: u32 = 4;
-
-/// Where the addresses begin in a secondary block.
-const NAMES: usize = 18;
-
-/// How many bytes a block has beside its addresses.
-const FRAME: usize = 22;
 
 /// The number under which it is kept.
 pub fn number(part: Copied) -> u32
@@ -50,7 +43,7 @@ pub fn parent_number(part: Copied) -> u32
     ensures { result ≡ number_of (parent (copied_part part)) }
 {
     match part {
-        Copied::Data { sblock, .. } if sblock >= DIRECT => secondary_number(sblock),
+        Copied::Data { sblock, .. } if sblock >= FIRST_SECONDARY => secondary_number(sblock),
         _ => INDEX_BLOCK,
     }
 }
@@ -61,11 +54,12 @@ pub fn name_offset(part: Copied) -> usize
     ensures { result ≡ name_offset (copied_part part) }
 {
     match part {
-        Copied::Data { sblock, block } if sblock >= DIRECT => NAMES + 8 * block as usize,
+        Copied::Data { sblock, block } if sblock >= FIRST_SECONDARY => FIRST_SLOT
+            + 8 * block as usize,
         Copied::Data { sblock, block } => {
             Eaib::FIRST + 8 * (NAMED_BEFORE[sblock as usize] as usize + block as usize)
         }
-        Copied::Secondary { sblock } => Eaib::SECOND + 8 * (sblock - DIRECT) as usize,
+        Copied::Secondary { sblock } => Eaib::SECOND + 8 * (sblock - FIRST_SECONDARY) as usize,
     }
 }
 
@@ -87,7 +81,7 @@ pub fn len(part: Copied) -> usize
     ensures value { result ≡ length_of (copied_part part) }
     ensures few { result ≤ 10000 }
 {
-    FRAME + 8 * addresses(part) as usize
+    SLOTS_FRAME + 8 * addresses(part) as usize
 }
 
 /// One more than the greatest chunk number to whose slot it leads.

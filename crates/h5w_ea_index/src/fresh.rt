@@ -10,15 +10,9 @@ ghost use Rattle.h5w_ea_index.specs.Fresh.{IsFresh};
 
 use h5w_bytes::UNDEFINED;
 use h5w_cache::{Block, Link, Placement};
-use h5w_ea::{Eadb, Easb, Slots, super_block};
+use h5w_ea::{Eadb, Easb, FIRST_SLOT, SLOTS_FRAME, Slots, super_block};
 use h5w_model::OutOfMemory;
 use std::alloc::Global;
-
-/// Where the addresses begin in a data block and in a secondary block.
-const FIRST: usize = 18;
-
-/// How many bytes such a block has beside its addresses.
-const FRAME: usize = 22;
 
 /// The turn and number of a data block.
 pub fn data_number(sblock: u32, block: u32) -> u32
@@ -75,7 +69,7 @@ pub fn data_block(alloc: Global, header: u64, sblock: u32, block: u32) -> Result
 {
     let (_, slots, start) = super_block(sblock);
     let offset = (start + u64::from(block) * slots) as u32;
-    let len = FRAME + 8 * slots as usize;
+    let len = SLOTS_FRAME + 8 * slots as usize;
     let slots = no_addresses(alloc, slots as usize)?;
     let made = Eadb {
         header,
@@ -96,7 +90,7 @@ pub fn links_to(alloc: Global, sblock: u32, count: u32) -> Result<Vec<Link>, Out
     let mut links = Vec::new(alloc);
     for block in 0..count {
         let link = Link {
-            offset: FIRST + 8 * block as usize,
+            offset: FIRST_SLOT + 8 * block as usize,
             child: 65 * sblock + block,
         };
         links.push(link)?;
@@ -110,7 +104,7 @@ pub fn secondary_block(alloc: Global, header: u64, sblock: u32) -> Result<Block,
     ensures { IfOk result (λ b. IsFresh header (secondary_of sblock) b) }
 {
     let (blocks, _, start) = super_block(sblock);
-    let len = FRAME + 8 * blocks as usize;
+    let len = SLOTS_FRAME + 8 * blocks as usize;
     let slots = no_addresses(alloc, blocks as usize)?;
     let made = Easb {
         header,

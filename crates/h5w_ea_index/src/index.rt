@@ -1,6 +1,7 @@
 ghost use Rattle.std.specs.Prelude.{◌≡◌, ◌≢◌, ◌↔◌, ℕ, ◌+◌, ◌<◌, ◌≤◌, ◌^◌, IsTrue, IfErr, IfOk, OnErr, OnOk, length, max, ◌==◌, List, []};
 ghost use Rattle.h5w_space.specs.Space.{Space};
 ghost use Rattle.h5w_model.specs.Numbers.{undefined};
+ghost use Rattle.h5w_model.specs.Tables.{format_limits};
 ghost use Rattle.h5w_cache.specs.Plans.{HasNoRoom, IfFull, TookSome};
 ghost use Rattle.h5w_cache.specs.Starts.{IsBegun, WasBegun, copy_pieces, in_place_pieces};
 ghost use Rattle.h5w_cache.specs.Stores.{is_changed, times};
@@ -76,7 +77,7 @@ impl ArrayIndex {
         header: u64,
         first: u64,
     ) -> Result<Option<ArrayIndex>, OpenArrayError>
-        requires { first < 131060 }
+        requires { first < format_limits.array }
         // it looked at the image alone; where the image failed its count of faults rose; what is damaged is refused as said
         ensures loads { Loads (I.view image.old) (I.view image.new) (λ img a f. IsDamaged img header first a f) result }
         ensures array { IfFound result (λ a. IsArray a) }
@@ -124,7 +125,7 @@ impl ArrayIndex {
 
     /// The address of chunk number `i`. None exactly where it has none.
     pub fn get(&self, i: u64) -> Option<u64>
-        requires { i < 131060 }
+        requires { i < format_limits.array }
         ensures exact { result ≡ found (map_of self.now i) }
         ensures array { IsArray self.now }
     {
@@ -138,7 +139,7 @@ impl ArrayIndex {
     /// The blocks on the way to the slot of chunk number `i` are there, and changed from now on. Map and ranges stay, also where
     /// memory ran out, and so does the max index set.
     pub fn hold(&mut self, i: u64) -> Result<(), OutOfMemory>
-        requires { i < 131060 }
+        requires { i < format_limits.array }
         ensures held { IsHeld self.old self.new }
         ensures reach { max_index_set self.new ≡ max_index_set self.old }
         // Only the blocks on this way are others, or changed from now on.
@@ -153,7 +154,7 @@ impl ArrayIndex {
     /// Chunk number `i`, which is held, has this address from now on, and each other one that which it had. The max index set is above
     /// it.
     pub fn set(&mut self, i: u64, address: u64)
-        requires below { i < 131060 }
+        requires below { i < format_limits.array }
         requires held { IsTrue (is_changed self.old (number_of (holder i))) }
         requires defined { address ≢ undefined }
         ensures set { IsSet i address self.old self.new }
@@ -167,7 +168,7 @@ impl ArrayIndex {
 
     /// Chunk number `i`, whose slot is held, has no address from now on, and each other one that which it had.
     pub fn unset(&mut self, i: u64)
-        requires below { i < 131060 }
+        requires below { i < format_limits.array }
         requires held { IsTrue (is_changed self.old (number_of (holder i))) }
         ensures unset { IsUnset i self.old self.new }
         // the max index set stays above each chunk with an address that it was above
@@ -192,7 +193,7 @@ impl ArrayIndex {
     ///
     /// So a writer that stopped between the two leaves an array: the index block names chunks that its header does not reach.
     pub fn reach(&mut self, i: u64)
-        requires below { i < 131060 }
+        requires below { i < format_limits.array }
         requires defined { map_of self.old i ≢ undefined }
         ensures held { IsHeld self.old self.new }
         ensures reach { max_index_set self.new ≡ max (max_index_set self.old) (i + 1) }

@@ -4,6 +4,7 @@ ghost use Rattle.std.specs.Prelude.{◌≡◌, ◌≢◌, ℕ, ◌+◌, ◌*◌,
 ghost use Rattle.h5w_model.specs.Causes.{Rose};
 ghost use Rattle.h5w_model.specs.Numbers.{range};
 ghost use Rattle.h5w_model.specs.declared.refusal.BlockFault.TheVariants.{Cut, OutOfMemory as no_memory};
+ghost use Rattle.h5w_model.specs.Tables.{format_limits};
 ghost use Rattle.h5w_image.specs.View.{Looked};
 ghost use Rattle.h5w_looks.specs.Still.{IsStill};
 ghost use Rattle.h5w_array_laws.specs.Parts.{IsPart, length_of};
@@ -18,17 +19,11 @@ use crate::create::keep;
 use crate::error::OpenArrayError;
 use h5w_bytes::UNDEFINED;
 use h5w_cache::{Block, Cache};
-use h5w_ea::super_block;
+use h5w_ea::{FIRST_SECONDARY, SUPER_BLOCKS, super_block};
 use h5w_image::PieceRead;
 use h5w_looks::read;
 use h5w_model::{BlockFault, OutOfMemory};
 use std::alloc::Global;
-
-/// How many super blocks have data blocks without pages.
-pub const SUPER_BLOCKS: u32 = 13;
-
-/// The super block of the first secondary block.
-pub const FIRST_SECONDARY: u32 = 4;
 
 /// The `len` bytes of the image from `at` on, fewer where it ends.
 pub fn bytes_at<I: PieceRead>(
@@ -156,7 +151,7 @@ fn load<I: PieceRead>(
     first: u64,
 ) -> Result<(), OpenArrayError>
     requires part { IsPart (copied_part part) }
-    requires low { first < 131060 }
+    requires low { first < format_limits.array }
     requires loading { IsLoading header (rank (copied_part part)) cache.old }
     ensures loads { Loads (I.view image.old) (I.view image.new) (λ img a f. IsOpened img first cache.old → IsDamaged img header first a f) result }
     ensures loading { OnOk result (IsLoading header (rank (copied_part part) + 1) cache.new) }
@@ -181,7 +176,7 @@ fn load_data<I: PieceRead>(
     first: u64,
 ) -> Result<(), OpenArrayError>
     requires known { sblock ≤ 12 }
-    requires low { first < 131060 }
+    requires low { first < format_limits.array }
     requires loading { IsLoading header (65 * sblock + 1) cache.old }
     ensures loads { Loads (I.view image.old) (I.view image.new) (λ img a f. IsOpened img first cache.old → IsDamaged img header first a f) result }
     ensures loading { OnOk result (IsLoading header (65 * (sblock + 1)) cache.new) }
@@ -212,7 +207,7 @@ fn load_secondary<I: PieceRead>(
     first: u64,
 ) -> Result<(), OpenArrayError>
     requires known { sblock ≤ 12 }
-    requires low { first < 131060 }
+    requires low { first < format_limits.array }
     requires loading { IsLoading header (65 * sblock) cache.old }
     ensures loads { Loads (I.view image.old) (I.view image.new) (λ img a f. IsOpened img first cache.old → IsDamaged img header first a f) result }
     ensures loading { OnOk result (IsLoading header (65 * sblock + 1) cache.new) }
@@ -241,7 +236,7 @@ fn load_super_block<I: PieceRead>(
     first: u64,
 ) -> Result<(), OpenArrayError>
     requires known { sblock ≤ 12 }
-    requires low { first < 131060 }
+    requires low { first < format_limits.array }
     requires loading { IsLoading header (65 * sblock) cache.old }
     ensures loads { Loads (I.view image.old) (I.view image.new) (λ img a f. IsOpened img first cache.old → IsDamaged img header first a f) result }
     ensures loading { OnOk result (IsLoading header (65 * (sblock + 1)) cache.new) }
@@ -260,7 +255,7 @@ pub fn load_all<I: PieceRead>(
     first: u64,
 ) -> Result<(), OpenArrayError>
     requires loading { IsLoading header 0 cache.old }
-    requires low { first < 131060 }
+    requires low { first < format_limits.array }
     ensures loads { Loads (I.view image.old) (I.view image.new) (λ img a f. IsOpened img first cache.old → IsDamaged img header first a f) result }
     ensures loading { OnOk result (IsLoading header 845 cache.new) }
     ensures opened { OnOk result ((img : List ℕ) → IsStill (I.view image.old) img → IsOpened img first cache.old → IsOpened img first cache.new) }

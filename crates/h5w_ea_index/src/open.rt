@@ -3,6 +3,7 @@
 ghost use Rattle.std.specs.Prelude.{◌≡◌, ◌≢◌, ℕ, ◌+◌, ◌<◌, ◌≤◌, ◌^◌, List, [], length, IfErr, IfOk, OnOk, None, Some};
 ghost use Rattle.h5w_model.specs.Numbers.{field};
 ghost use Rattle.h5w_model.specs.Images.{At};
+ghost use Rattle.h5w_model.specs.Tables.{format_limits};
 ghost use Rattle.h5w_looks.specs.Still.{IsStill};
 ghost use Rattle.h5w_array_laws.specs.Parts.{header, index_block};
 ghost use Rattle.h5w_array_laws.specs.ArrayStores.{IsArray, header_place};
@@ -91,7 +92,7 @@ pub fn open<I: PieceRead>(
     header: u64,
     first: u64,
 ) -> Result<Option<Cache>, OpenArrayError>
-    requires { first < 131060 }
+    requires { first < format_limits.array }
     ensures loads { Loads (I.view image.old) (I.view image.new) (λ img a f. IsDamaged img header first a f) result }
     ensures array { IfFound result IsArray }
     ensures clean { IfFound result (λ v. v.changed ≡ []) }

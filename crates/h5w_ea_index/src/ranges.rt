@@ -8,11 +8,10 @@ ghost use Rattle.h5w_ea_index.specs.Ranges.{block_ranges, range_from, ranges_of_
 ghost use Rattle.h5w_space.specs.Ranges.{range_at};
 
 use crate::copied::{Copied, len, number, past};
-use crate::load::{FIRST_SECONDARY, SUPER_BLOCKS};
 use crate::slot::{HEADER, INDEX_BLOCK};
 use h5w_bytes::UNDEFINED;
 use h5w_cache::Cache;
-use h5w_ea::{Eahd, Eaib, super_block};
+use h5w_ea::{Eahd, Eaib, FIRST_SECONDARY, SUPER_BLOCKS, super_block};
 use h5w_model::OutOfMemory;
 use h5w_space::Extent;
 use std::alloc::Global;

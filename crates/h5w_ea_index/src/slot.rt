@@ -1,12 +1,13 @@
 //! In which block the address of a chunk stands, and where in it.
 
 ghost use Rattle.std.specs.Prelude.{◌≡◌, ℕ, ◌+◌, ◌*◌, ◌<◌, ◌≤◌};
+ghost use Rattle.h5w_model.specs.Tables.{format_limits};
 ghost use Rattle.h5w_cache.specs.Plans.{bytes_in};
 ghost use Rattle.h5w_array_laws.specs.Parts.{holder, slot_offset};
 ghost use Rattle.h5w_ea_index.specs.Fresh.{part_of};
 
 use h5w_cache::Cache;
-use h5w_ea::{Place, place};
+use h5w_ea::{Eaib, FIRST_SLOT, Place, place};
 
 /// The number of the index block, and that of the header: their turns come last.
 pub const INDEX_BLOCK: u32 = 845;
@@ -33,23 +34,17 @@ pub struct Slot {
 /// Super block and number in it of the data blocks that the index block names.
 const NAMED: [(u32, u32); 6] = [(0, 0), (1, 0), (2, 0), (2, 1), (3, 0), (3, 1)];
 
-/// Where the slots of the index block begin.
-const INDEX_SLOTS: usize = 14;
-
-/// Where those of a data block begin.
-const DATA_SLOTS: usize = 18;
-
 /// Where the slot of chunk number `i` stands ("The Extensible Array Index").
 pub fn locate(i: u64) -> Slot
-    requires { i < 131060 }
+    requires { i < format_limits.array }
     ensures holder { part_of result.holder ≡ holder i }
     ensures offset { result.offset ≡ slot_offset i }
 {
     let (holder, begin, slot) = match place(i) {
-        Place::Index { slot } => (Holder::Index, INDEX_SLOTS, slot),
+        Place::Index { slot } => (Holder::Index, Eaib::SLOTS, slot),
         Place::Direct { block, slot } => {
             let (sblock, block) = NAMED[block as usize];
-            (Holder::Data { sblock, block }, DATA_SLOTS, slot)
+            (Holder::Data { sblock, block }, FIRST_SLOT, slot)
         }
         Place::Second {
             sblock,
@@ -57,7 +52,7 @@ pub fn locate(i: u64) -> Slot
             slot,
         } => {
             let (sblock, block) = (sblock as u32, block as u32);
-            (Holder::Data { sblock, block }, DATA_SLOTS, slot)
+            (Holder::Data { sblock, block }, FIRST_SLOT, slot)
         }
     };
     Slot {

@@ -17,18 +17,10 @@ use h5w_bytes::number;
 use h5w_dataset::{FoundMessage, put_before};
 use h5w_image::PieceRead;
 use h5w_model::{BlockFault, HeaderError, OutOfMemory, Prefix, ReadError};
-use h5w_ohdr::{Msgs, block, messages};
+use h5w_ohdr::kind::CONTINUATION;
+use h5w_ohdr::{BLOCKS, LEAST, Msgs, block, messages};
 use h5w_space::Extent;
 use std::alloc::Global;
-
-/// The type of a continuation message.
-const CONTINUATION: u8 = 0x10;
-
-/// The fewest bytes of a continuation block.
-const LEAST: u64 = 8;
-
-/// The most continuation blocks of a header.
-const BLOCKS: u8 = 32;
 
 /// The messages of a header, each continuation's in place of its message, and its ranges in the order of visit.
 #[derive(Drop)]

@@ -3,6 +3,7 @@ use Rattle.std.specs.Prelude.{◌≡◌, ℕ, ◌+◌, ◌<◌, ◌≤◌, max, 
 use Rattle.h5w_model.specs.Numbers.{undefined}
 use Rattle.h5w_model.specs.declared.cell.Key.{Key}
 use Rattle.h5w_model.specs.declared.piece.Write.{Write}
+use Rattle.h5w_model.specs.Tables.{format_limits}
 use Rattle.h5w_space.specs.Space.{Space}
 use Rattle.h5w_space.specs.declared.Full.{Full}
 use Rattle.h5w_cache.specs.Plans as block_plans
@@ -51,7 +52,7 @@ IsDeep (a_tree p v) key = trees.IsDeep v key
 -- the blocks on the way to its slot are there, and the max index set is above it
 pub record ArraySet (i address : ℕ) (v w : Store) : Type 0 where
   pub set : slots.IsSet i address v w
-  pub slot : (i < 131060) × (is_changed w (number_of (holder i)) ≡ true)
+  pub slot : (i < format_limits.array) × (is_changed w (number_of (holder i)) ≡ true)
   pub reach : max_index_set w ≡ max (max_index_set v) (i + 1)
   pub way : slots.Touches (slots.OnWay (holder i)) v w
   pub array : IsArray w

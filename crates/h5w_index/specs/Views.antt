@@ -1,7 +1,7 @@
 -- The index of a session, whichever its kind.
 use Rattle.std.specs.Prelude.{◌≡◌, ◌≢◌, ℕ, ◌<◌, ◌==◌, Bool, true, List, [], ◌∷◌}
 use Rattle.h5w_model.specs.Numbers.{undefined}
-use Rattle.h5w_model.specs.Tables.{key_equal}
+use Rattle.h5w_model.specs.Tables.{key_equal, format_limits}
 use Rattle.h5w_model.specs.Findings.{Used}
 use Rattle.h5w_model.specs.declared.cell.Key.{Key}
 use Rattle.h5w_model.specs.declared.cell.IndexKind.{IndexKind}
@@ -46,7 +46,7 @@ is_key (a_tree place v) key other = key_equal key other
 
 -- the index can have the key: an array whose data blocks have no pages has 131,060 chunks at most
 abbrev pub TakesKey : IndexView → Key → Type 0
-TakesKey (an_array v) key = key.i < 131060
+TakesKey (an_array v) key = key.i < format_limits.array
 TakesKey (a_tree place v) key = Unit {0}
 
 -- readers look for the chunk's address: HDF5's library takes each chunk from the max index set of an array's header on for one without an
@@ -61,7 +61,7 @@ KeepsReach v w = (key : Key) → address_in w key ≢ undefined → IsReached v 
 
 -- a place is held for the key: the block of its slot is changed, or a record is there
 abbrev pub HasSlot : IndexView → Key → Type 0
-HasSlot (an_array v) key = (key.i < 131060) × (is_changed v (number_of (holder key.i)) ≡ true)
+HasSlot (an_array v) key = (key.i < format_limits.array) × (is_changed v (number_of (holder key.i)) ≡ true)
 HasSlot (a_tree place v) key = IsThere v key
 
 -- ---- Its ranges

@@ -1,5 +1,6 @@
 ghost use Rattle.std.specs.Prelude.{◌≡◌, ◌≢◌, ℕ, ◌+◌, ◌<◌, ◌^◌, [], length, IsTrue, ◌↔◌, IfErr, IfOk, OnOk, OnErr};
 ghost use Rattle.h5w_model.specs.Numbers.{undefined};
+ghost use Rattle.h5w_model.specs.Tables.{format_limits};
 ghost use Rattle.h5w_space.specs.Space.{Space};
 ghost use Rattle.h5w_cache.specs.Plans.{IfFull};
 ghost use Rattle.h5w_array_laws.specs.ArrayStores.{IsArray, IsCreated};
@@ -30,7 +31,7 @@ pub enum Index {
 
 /// A chunk of an array has this address from now on: the blocks on the way to it are there first.
 fn insert_in_array(index: &mut ArrayIndex, i: u64, address: u64) -> Result<(), OutOfMemory>
-    requires below { i < 131060 }
+    requires below { i < format_limits.array }
     requires defined { address ≢ undefined }
     ensures set { OnOk result (ArraySet i address index.old index.new) }
     ensures held { OnErr result (ArrayHeld i index.old index.new) }

@@ -9,12 +9,8 @@ use crate::table::Links;
 use h5w_bytes::UNDEFINED;
 use h5w_model::{LinkError, Msg};
 use h5w_ohdr::Msgs;
+use h5w_ohdr::kind::{LINK, LINK_INFO};
 use std::alloc::Global;
-
-/// The type of a link info message, and that of a link message.
-const LINK_INFO: u8 = 0x02;
-
-const LINK: u8 = 0x06;
 
 /// The links of these messages, where the first link info and each link are spelled as such; else the first that is not.
 fn spelled_links(alloc: Global, list: &[Msg]) -> Result<Links<'_>, LinkError>

@@ -57,7 +57,7 @@ root_address img = (super_fields (range img 0 48)).root
 
 -- the chunks that an index can name
 abbrev pub IsKey : IndexKind → Key → Type 0
-IsKey Array key = (key.i < 131060) × (key.j ≡ 0)
+IsKey Array key = (key.i < format_limits.array) × (key.j ≡ 0)
 IsKey Tree key = Unit {0}
 
 -- an address that was defined is the same

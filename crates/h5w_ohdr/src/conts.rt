@@ -2,14 +2,20 @@
 ghost use Rattle.std.specs.Prelude.{◌≡◌, ◌++◌, [], ◌∷◌, take, option_to_list};
 ghost use Rattle.h5w_model.specs.Headers.{cont_of, conts_of};
 
+use crate::kind::CONTINUATION;
 use crate::list::Msgs;
-use crate::walk::CONTINUATION;
 use h5w_bytes::number;
 use h5w_model::Msg;
 use std::marker::Model;
 
-/// One more than the blocks that a header may have, so that the one too many can be seen.
-pub const MOST: usize = 33;
+/// The most continuation blocks of a header.
+pub const BLOCKS: u8 = 32;
+
+/// One more than these, so that the one too many can be seen.
+pub const MOST: usize = BLOCKS as usize + 1;
+
+/// The fewest bytes of a continuation block.
+pub const LEAST: u64 = 8;
 
 /// The address and the length in bytes of continuation blocks, at most 33 of them.
 #[derive(Drop)]

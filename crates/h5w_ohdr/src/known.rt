@@ -3,14 +3,29 @@ ghost use Rattle.std.specs.Prelude.{◌≡◌, MatchOption, Ok, Err};
 ghost use Rattle.h5w_model.specs.Headers.{is_known, first_unknown, all_known, unknown_for_writing};
 ghost use Rattle.h5w_model.specs.declared.refusal.HeaderError.TheVariants.{Unknown};
 
+use crate::kind;
 use crate::list::Msgs;
 use h5w_model::{HeaderError, Msg};
 
-/// Nil, dataspace, link info, datatype, old fill value, fill value, link, layout, group info, filter pipeline, attribute, comment,
-/// old modification time, continuation, modification time, attribute info, reference count.
+/// The types that are known here.
 const KNOWN: [u8; 17] = [
-    0x00, 0x01, 0x02, 0x03, 0x04, 0x05, 0x06, 0x08, 0x0a, 0x0b, 0x0c, 0x0d, 0x0e, 0x10, 0x12, 0x15,
-    0x16,
+    kind::NIL,
+    kind::DATASPACE,
+    kind::LINK_INFO,
+    kind::DATATYPE,
+    kind::OLD_FILL,
+    kind::FILL,
+    kind::LINK,
+    kind::LAYOUT,
+    kind::GROUP_INFO,
+    kind::FILTERS,
+    kind::ATTRIBUTE,
+    kind::COMMENT,
+    kind::OLD_TIME,
+    kind::CONTINUATION,
+    kind::TIME,
+    kind::ATTRIBUTE_INFO,
+    kind::REFERENCE_COUNT,
 ];
 
 /// A message that is not known is refused.

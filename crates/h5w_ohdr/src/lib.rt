@@ -7,6 +7,7 @@
 
 mod conts;
 mod header;
+pub mod kind;
 mod known;
 mod list;
 mod reading;
@@ -14,7 +15,7 @@ mod rows;
 mod spelling;
 mod walk;
 
-pub use conts::{Conts, MOST, continuations};
+pub use conts::{BLOCKS, Conts, LEAST, MOST, continuations};
 pub use h5w_model::{HeaderError, Msg, Prefix};
 pub use header::prefix;
 pub use list::Msgs;

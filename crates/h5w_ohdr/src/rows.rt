@@ -3,14 +3,10 @@ ghost use Rattle.std.specs.Prelude.{◌≡◌, ℕ, ◌+◌, ◌^◌, ◌<◌, �
 ghost use Rattle.h5w_model.specs.Headers.{messages_at, header_length, data_in_header, index_address_place, rows_in_header, index_in_header, rows_changed, with_rows_bytes};
 
 use crate::header::{inside, prefix};
+use crate::kind::{DATASPACE, LAYOUT};
 use crate::walk::{before_data, first};
 use h5w_bytes::{byte, put};
 use h5w_sum::seal;
-
-/// The type of a dataspace message, and that of a layout message.
-const DATASPACE: u8 = 0x01;
-
-const LAYOUT: u8 = 0x08;
 
 /// The first message of a type in a header: where its data begin, and the data.
 fn data_of(chunk: &[u8], kind: u8) -> Option<(usize, &[u8])>

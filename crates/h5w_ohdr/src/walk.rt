@@ -5,13 +5,11 @@ ghost use Rattle.h5w_model.specs.Headers.{before_data, overruns, msgs_in};
 ghost use Rattle.h5w_model.specs.declared.refusal.HeaderError.TheVariants.{Overrun, OutOfMemory};
 ghost use Rattle.h5w_ohdr.specs.Walk.{HasMessage};
 
+use crate::kind::CONTINUATION;
 use crate::list::Msgs;
 use h5w_bytes::{byte, number};
 use h5w_model::{Bytes, HeaderError, Msg};
 use std::alloc::Global;
-
-/// The type of a continuation message.
-pub const CONTINUATION: u8 = 0x10;
 
 /// What a message says before its data.
 #[derive(Clone, Copy)]

@@ -14,11 +14,9 @@ use h5w_dataset::{Dataset, FoundMessage, describe, first};
 use h5w_headers::{dataset_header, place_of, root_header, superblock};
 use h5w_image::PieceRead;
 use h5w_model::{ReadError, Super};
+use h5w_ohdr::kind::LAYOUT;
 use h5w_space::Extent;
 use std::alloc::Global;
-
-/// The type of a layout message.
-const LAYOUT: u8 = 0x08;
 
 /// The most bytes of a chunk that is written.
 const CHUNK_BYTES: u64 = 16_777_216;

@@ -5,7 +5,7 @@ ghost use Rattle.h5w_model.specs.Images.{pieces};
 ghost use Rattle.h5w_model.specs.Superblock.{super_bytes};
 ghost use Rattle.h5w_packing_laws.specs.Packing.{packed_super};
 
-use h5w_cache::put_pieces;
+use h5w_bytes::put_pieces;
 use h5w_creation::ROOT_PLACE;
 use h5w_model::{OutOfMemory, Piece, Super, Write};
 use h5w_ohdr::Msgs;

@@ -10,7 +10,7 @@ ghost use Rattle.h5w_several_creation_laws.specs.SeveralFiles.{first_place};
 ghost use Rattle.h5w_creation.specs.declared.form.Form.{Form};
 ghost use Rattle.h5w_several_creation.specs.Forms.{AreNames, each_by};
 
-use h5w_cache::put_pieces;
+use h5w_bytes::put_pieces;
 use h5w_creation::ROOT_PLACE;
 use h5w_model::{OutOfMemory, Write};
 use h5w_names::Names;

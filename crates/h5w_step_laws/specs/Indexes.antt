@@ -4,7 +4,7 @@ use Rattle.h5w_model.specs.Numbers.{undefined}
 use Rattle.h5w_model.specs.Images.{apply}
 use Rattle.h5w_model.specs.Programs.{ret, eval, and_then, visits, Same}
 use Rattle.h5w_model.specs.Datasets.{Described}
-use Rattle.h5w_model.specs.Tables.{InPlace, nowhere, in_array, in_tree, in_place, address_behind}
+use Rattle.h5w_model.specs.Tables.{InPlace, nowhere, in_array, in_tree, in_place, address_behind, format_limits}
 use Rattle.h5w_model.specs.Findings.{Used, Visited, both, chunk_ranges, first_visits, second_visits, node_visit, chunk_bytes, index_visit}
 use Rattle.h5w_model.specs.declared.cell.Key.{Key}
 use Rattle.h5w_model.specs.declared.cell.IndexKind.TheVariants.{Array}
@@ -13,7 +13,7 @@ use Rattle.h5w_step_laws.specs.Ranges.{Among, AllEndBy, AllSome, AllWithin, Miss
 
 -- the keys that an index is asked for: of an array, those of its chunk numbers
 abbrev pub IsNamed : Described → Key → Type 0
-IsNamed d key = d.layout.index ≡ Array → key.i < 131060
+IsNamed d key = d.layout.index ≡ Array → key.i < format_limits.array
 
 -- the part of an index's visit behind the blocks in place
 abbrev pub behind_visit : ℕ → ℕ → InPlace → Visited

@@ -3,12 +3,13 @@ use Rattle.h5w_headers.proofs.RanLemmas.{going_stop, going_on, going_end, told_o
 use Rattle.h5w_check.proofs.ArrayLemmas.{second_next, second_past}
 use Rattle.h5w_check.proofs.array.second_blocks.Goals as goal
 
-pub returns-then-sblock-gt-LAST_SECONDARY : goal.returns-then-sblock-gt-LAST_SECONDARY
-returns-then-sblock-gt-LAST_SECONDARY g c =
+pub returns-then-sblock-ge-SUPER_BLOCKS : goal.returns-then-sblock-ge-SUPER_BLOCKS
+returns-then-sblock-ge-SUPER_BLOCKS g c =
     let a = c.args in
     let l = c.loop-address in
     let lt : l.address-index < length a.addresses.now = omega arith in
-    going_end _ _ (Ok l.ranges) _ l.invariant (told_ok _ _ refl) (λ img. second_past img l.ranges a.bounds.now.end a.bounds.now.chunk l.sblock a.addresses.now l.address-index lt c.if-sblock-gt-LAST_SECONDARY.true)
+    let past : 12 < l.sblock = omega arith in
+    going_end _ _ (Ok l.ranges) _ l.invariant (told_ok _ _ refl) (λ img. second_past img l.ranges a.bounds.now.end a.bounds.now.chunk l.sblock a.addresses.now l.address-index lt past)
 
 pub returns-in_err-secondary_block : goal.returns-in_err-secondary_block
 returns-in_err-secondary_block g c =

@@ -21,9 +21,9 @@ loop-t-preserved c =
     let stride = row_len d in
     record {
       place = (let next : (c.loop-t.t + 1) * stride ≡ c.loop-t.t * stride + stride = omega arith in omega (arith, next, c.row_len-place.ensures, c.loop-t.invariant.place));
-      goes = blocks_more (own_row d c.args.cells.now s) c.loop-t.out.items c.put_pieces.new.out.items (c.args.out.now.items ++ writes_of (row_blocks (own_row d c.args.cells.now s) c.args.at stride 0 s.rows))
+      goes = blocks_more (own_row d c.args.cells.now s) c.loop-t.out.items c.push_pieces.new.out.items (c.args.out.now.items ++ writes_of (row_blocks (own_row d c.args.cells.now s) c.args.at stride 0 s.rows))
           c.row.result.now c.loop-t.place stride c.loop-t.t (s.rows - c.loop-t.t) (s.rows - (c.loop-t.t + 1)) (c.loop-t.t + 1) (c.loop-t.place + c.row_len-place.result)
-          (omega arith) (omega arith) (ap (λ (n : ℕ). c.loop-t.place + n) c.row_len-place.ensures) c.row.ensures.exact c.in_ok-put_pieces.ensures c.loop-t.invariant.goes;
+          (omega arith) (omega arith) (ap (λ (n : ℕ). c.loop-t.place + n) c.row_len-place.ensures) c.row.ensures.exact c.in_ok-push_pieces.ensures c.loop-t.invariant.goes;
     }
 
 pub returns : goal.returns

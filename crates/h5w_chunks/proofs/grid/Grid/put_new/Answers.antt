@@ -30,8 +30,8 @@ put_fill-requires-2-clause-bound c =
     let long : length c.put_rows.new.out.items ≡ s.first * row_len d + length rows = ap length both ∙ length-append front rows ∙ ap (λ (n : ℕ). n + length rows) (length-front d cells s cut c.requires.share) in
     omega (arith, long, length-share_rows d cells s cut c.requires.share, back_fits d cells s cut c.requires.share)
 
-pub put_pieces-requires : goal.put_pieces-requires
-put_pieces-requires c =
+pub push_pieces-requires : goal.push_pieces-requires
+push_pieces-requires c =
     let d = dataset_of c.args.self.now in
     let cells = c.args.cells.now in
     let s = c.args.share.now in
@@ -47,4 +47,4 @@ returns c =
     let s = c.args.share.now in
     let made : c.deref.result.now ≡ new_chunk d cells s =
     new_chunk_made d cells s (is_cut c.args.self.now c.requires.grid) c.requires.share c.in_ok-bytes.bytes.items c.put_fill.new.out.items c.put_rows.new.out.items c.put_fill-2.new.out.items c.deref.result.now c.in_ok-bytes.ensures.items c.in_ok-put_fill.ensures c.in_ok-put_rows.ensures c.in_ok-put_fill-2.ensures c.deref.ensures.value in
-    subst (λ (b : List ℕ). OnOk c.put_pieces.result (c.put_pieces.new.out.items ≡ c.args.out.now.items ++ pieces c.args.address b)) made c.put_pieces.ensures
+    subst (λ (b : List ℕ). OnOk c.push_pieces.result (c.push_pieces.new.out.items ≡ c.args.out.now.items ++ pieces c.args.address b)) made c.push_pieces.ensures

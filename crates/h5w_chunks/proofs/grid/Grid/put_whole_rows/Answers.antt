@@ -5,14 +5,14 @@ use Rattle.h5w_chunks.proofs.Geometry.{is_cut}
 use Rattle.h5w_chunks.proofs.RowLaws.{length-share_rows}
 use Rattle.h5w_chunks.proofs.grid.Grid.put_whole_rows.Goals as goal
 
-pub put_pieces-requires : goal.put_pieces-requires
-put_pieces-requires c =
+pub push_pieces-requires : goal.push_pieces-requires
+push_pieces-requires c =
     let d = dataset_of c.args.self.now in
     let long = length-share_rows d c.args.cells.now c.args.share.now (is_cut c.args.self.now c.requires.grid) c.requires.share in
     omega (arith, ap length c.run.ensures, long, c.requires.ends)
 
-pub put_pieces-requires-2 : goal.put_pieces-requires-2
-put_pieces-requires-2 c =
+pub push_pieces-requires-2 : goal.push_pieces-requires-2
+push_pieces-requires-2 c =
     let d = dataset_of c.args.self.now in
     let rows = share_rows d c.args.cells.now c.args.share.now in
     let long = length-share_rows d c.args.cells.now c.args.share.now (is_cut c.args.self.now c.requires.grid) c.requires.share in

@@ -1,6 +1,6 @@
 use Rattle.std.proofs.Common.{◌≡◌, ◌+◌, ◌/◌, ◌++◌, length, vec_len, vec_capacity}
 use Rattle.h5w_model.specs.Images.{pieces}
-use Rattle.h5w_cache.proofs.write.put_pieces.Given as goal
+use Rattle.h5w_bytes.proofs.pieces.put_pieces.Given as goal
 
 abbrev pub invariant-loop-part : goal.invariant-loop-part
 invariant-loop-part l = record {

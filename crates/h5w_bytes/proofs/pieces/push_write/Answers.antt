@@ -3,10 +3,10 @@ use Rattle.std.specs.Prelude.{slice_set}
 use Rattle.std.specs.Vec.{vec_len}
 use Rattle.std.proofs.lemmas.List.{get_or_at, set_at}
 use Rattle.h5w_model.specs.declared.piece.Write.{Write}
-use Rattle.h5w_chunks.proofs.rows.push_write.Goals as goal
+use Rattle.h5w_bytes.proofs.pieces.push_write.Goals as goal
 
-pub returns-in-Some : goal.returns-in-Some
-returns-in-Some c =
+pub returns-in-Some-clause-items : goal.returns-in-Some-clause-items
+returns-in-Some-clause-items c =
     let before = c.args.out.now.items in
     let last = c.in-Some.last.now in
     let first : Write = record { at = c.args.at; piece = c.new-piece.result } in
