@@ -9,6 +9,7 @@ use Rattle.h5w_cache.specs.declared.moves.Move.{Move}
 use Rattle.h5w_bt_nodes.specs.Nodes.{records_of, total_of}
 use Rattle.h5w_bt_index.specs.Marks.{clean_of}
 use Rattle.h5w_bt_index.specs.Index.{Index, records}
+pub use Rattle.h5w_bt_nodes.specs.Blocks.{news}
 use Rattle.h5w_bt_nodes.specs.Blocks.{AllRead, place_of, placed, stood, writes_of, written}
 
 -- what the header says; the root of a tree without records has no place
@@ -36,12 +37,9 @@ pub record IsNodeMove (s : Space) (m : Move) (t : Space) : Type 0 where
 abbrev pub AreNodeMoves : Space → List Move → Space → Type 0
 AreNodeMoves s ms t = Chain IsNodeMove s ms t
 
--- the places that they leave, and those that they get
+-- the places that they leave; those that they get are `news`
 abbrev pub olds : List Move → List ℕ
 olds ms = map (λ (m : Move). m.old) ms
-
-abbrev pub news : List Move → List ℕ
-news ms = map (λ (m : Move). m.new) ms
 
 -- Some first ones of n nodes have their places, and the next has none.
 pub record HasNoPlace (n : ℕ) (s : Space) (e : Full) : Type 0 where

@@ -228,10 +228,12 @@ impl TreeIndex {
         self.root.is_clean()
     }
 
-    /// Begins the plan of all changed nodes: takes all memory that [`TreeIndex::finish`] needs, and settles the places. The nodes take new
-    /// ones, and those that they had are retired, where they are live.
+    /// Begins the plan of all changed nodes. They take new places, and those that they had are retired, where they are live.
     ///
-    /// The tree does not change. After a refusal the places are of no use: some are taken.
+    /// `begin` does all that can be refused, and changes nothing but the places that it is handed; `finish` cannot fail, and makes it so. For
+    /// a tree that is places, memory, and the bytes of the nodes, since to spell them takes memory.
+    ///
+    /// After a refusal the places are of no use: some are taken.
     pub fn begin(&self, places: &mut Places) -> Result<NodeFlush, PlanError>
         requires { IsShaped (view_of self.now) }
         ensures begun { IfOk result (λ b. IsBegun (header_place self.now) (view_of self.now) places.old b places.new) }
@@ -246,7 +248,7 @@ impl TreeIndex {
     /// The writes of all changed nodes and of the header, of a plan that was begun of this tree: nodes at new places, children before their
     /// parent, the header where it stands. All is clean from then on.
     ///
-    /// It cannot fail.
+    /// It cannot fail, as [`TreeIndex::begin`] did all that can.
     pub fn finish(&mut self, begun: NodeFlush) -> Plan
         requires shape { IsShaped (view_of self.old) }
         requires begun { WasBegun (header_place self.old) (view_of self.old) begun }

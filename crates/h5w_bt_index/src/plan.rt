@@ -7,8 +7,8 @@ ghost use Rattle.h5w_model.specs.Trees.{bthd_bytes};
 ghost use Rattle.h5w_bt.specs.Fields.{bthd_of};
 ghost use Rattle.h5w_bt.specs.Parts.{IsHeader};
 ghost use Rattle.h5w_bt_index.specs.Index.{IsShaped, index_of};
-ghost use Rattle.h5w_bt_nodes.specs.Blocks.{AllRead, changes, stood, writes_of, written};
-ghost use Rattle.h5w_bt_index.specs.Plans.{AreNodeMoves, AreTaken, HasNoPlace, IsBegun, IsNodeMove, TookSome, header_writes, news, olds, planned};
+ghost use Rattle.h5w_bt_nodes.specs.Blocks.{AllRead, changes, news, stood, writes_of, written};
+ghost use Rattle.h5w_bt_index.specs.Plans.{AreNodeMoves, AreTaken, HasNoPlace, IsBegun, IsNodeMove, TookSome, header_writes, olds, planned};
 
 use crate::root::Root;
 use h5w_bt::{Bthd, Child, NODE};
@@ -19,17 +19,17 @@ use h5w_space::{Full, Places};
 use std::alloc::Global;
 use std::marker::Model;
 
-/// A flush of a tree's changed nodes that is begun: its moves and its writes. It has its places, and no node has changed yet.
+/// A flush of a tree's changed nodes that is begun: the moves of its plan, with their writes.
+///
+/// `begin` does all that can be refused, and changes nothing but the places that it is handed; `finish` cannot fail, and makes it so. For a
+/// tree that is places, memory, and the bytes of the nodes, since to spell them takes memory.
 #[derive(Drop)]
 pub struct NodeFlush {
     plan: Plan,
-    /// The places that the changed nodes get, in the order in which they are written.
-    new: Vec<u64>,
 }
 
 impl Model for NodeFlush {
-    ghost use Rattle.std.specs.Prelude.{◌≡◌};
-    ghost use Rattle.h5w_bt_index.specs.Plans.{Start, news};
+    ghost use Rattle.h5w_bt_index.specs.Plans.{Start};
 
     ghost Value = { Start };
 
@@ -38,8 +38,6 @@ impl Model for NodeFlush {
       copies = b.plan.copies.items;
       in_place = b.plan.in_place.items;
     } };
-
-    ghost invariant = { λ b. b.new.items ≡ news b.plan.moves.items };
 }
 
 impl NodeFlush {
@@ -105,17 +103,6 @@ fn moves_of(root: &Root, alloc: Global, places: &mut Places) -> Result<Vec<Move>
     Ok(moves)
 }
 
-/// The places that nodes get.
-fn news(moves: &Vec<Move>) -> Result<Vec<u64>, OutOfMemory>
-    ensures { IfOk result (λ v. v.items ≡ news moves.now.items) }
-{
-    let mut places = Vec::with_capacity(*moves.allocator(), moves.len())?;
-    for node_move in moves {
-        places.push(node_move.new)?;
-    }
-    Ok(places)
-}
-
 /// What the header says where this is the pointer to the root.
 fn header(depth: u64, root: Child) -> Bthd
     ensures { bthd_of result ≡ record { depth = depth; root = root.address; records = root.records; total = root.total } }
@@ -142,23 +129,23 @@ fn put_header(place: u64, header: Bthd, out: &mut Vec<Write>) -> Result<(), OutO
     Ok(())
 }
 
-/// The writes of the changed nodes at these places, and of the header.
+/// The writes of the changed nodes at the new places of these moves, and of the header.
 fn writes_at(
     root: &Root,
     place: u64,
-    places: &Vec<u64>,
+    moves: &Vec<Move>,
 ) -> Result<(Vec<Write>, Vec<Write>), OutOfMemory>
     requires shape { IsShaped (index_of root.now) }
-    requires enough { changes (index_of root.now).depth (index_of root.now).root ≤ length places.now.items }
-    requires ends { All (λ (p : ℕ). p + 2048 < 2 ^ 64) places.now.items }
-    ensures copies { IfOk result (λ r. r.0.items ≡ writes_of (written (index_of root.now).depth places.now.items (index_of root.now).root)) }
-    ensures in_place { IfOk result (λ r. r.1.items ≡ header_writes place (index_of root.now) (planned places.now.items (index_of root.now))) }
-    ensures reads { OnOk result (AllRead (index_of root.now).depth places.now.items (index_of root.now).root) }
+    requires enough { changes (index_of root.now).depth (index_of root.now).root ≤ length moves.now.items }
+    requires ends { All (λ (p : ℕ). p + 2048 < 2 ^ 64) (news moves.now.items) }
+    ensures copies { IfOk result (λ r. r.0.items ≡ writes_of (written (index_of root.now).depth (news moves.now.items) (index_of root.now).root)) }
+    ensures in_place { IfOk result (λ r. r.1.items ≡ header_writes place (index_of root.now) (planned (news moves.now.items) (index_of root.now))) }
+    ensures reads { OnOk result (AllRead (index_of root.now).depth (news moves.now.items) (index_of root.now).root) }
 {
-    let pieces = places.len().saturating_mul(PIECES);
-    let mut copies = Vec::with_capacity(*places.allocator(), pieces)?;
-    let mut in_place = Vec::new(*places.allocator());
-    let (_, pointer) = root.write(places, &mut copies)?;
+    let pieces = moves.len().saturating_mul(PIECES);
+    let mut copies = Vec::with_capacity(*moves.allocator(), pieces)?;
+    let mut in_place = Vec::new(*moves.allocator());
+    let (_, pointer) = root.write(moves, &mut copies)?;
     if !root.is_clean() {
         put_header(place, header(root.depth(), pointer), &mut in_place)?;
     }
@@ -178,15 +165,14 @@ pub fn begin(
     ensures left { OnErr result (TookSome places.old places.new) }
 {
     let moves = moves_of(root, alloc, places)?;
-    let new = news(&moves)?;
-    let (copies, in_place) = writes_at(root, place, &new)?;
+    let (copies, in_place) = writes_at(root, place, &moves)?;
     retire_all(&moves, places);
     let plan = Plan {
         moves,
         copies,
         in_place,
     };
-    Ok(NodeFlush { plan, new })
+    Ok(NodeFlush { plan })
 }
 
 /// The plan that was begun of this tree; all nodes are clean from then on.
@@ -197,7 +183,7 @@ pub fn finish(root: &mut Root, begun: NodeFlush) -> Plan
     ensures in_place { result.in_place.items ≡ begun.in_place }
     ensures planned { index_of root.new ≡ planned (news begun.moves) (index_of root.old) }
 {
-    let NodeFlush { plan, new } = begun;
-    root.settle(&new);
+    let NodeFlush { plan } = begun;
+    root.settle(&plan.moves);
     plan
 }

@@ -5,13 +5,14 @@ ghost use Rattle.std.specs.List.{All};
 ghost use Rattle.h5w_bt_index.specs.Index.{IsShaped, index_of, inserted};
 ghost use Rattle.h5w_bt_nodes.specs.Nodes.{found, records_of, total_of};
 ghost use Rattle.h5w_bt_nodes.specs.Puts.{is_full_path, is_over, put};
-ghost use Rattle.h5w_bt_nodes.specs.Blocks.{AllRead, changes, place_of, placed, pointer_of, stood, writes_of, written};
+ghost use Rattle.h5w_bt_nodes.specs.Blocks.{AllRead, changes, news, place_of, placed, pointer_of, stood, writes_of, written};
 ghost use Rattle.h5w_bt_index.specs.Plans.{planned};
 ghost use Rattle.h5w_bt_index.specs.Marks.{clean_of};
 ghost use Rattle.h5w_bt.specs.Parts.{child_of};
 
 use h5w_bt::{Child, Key, Record};
 use h5w_bt_nodes::{Inner, Leaf, Subtree, put_at_root};
+use h5w_cache::Move;
 use h5w_model::{OutOfMemory, Write};
 use std::alloc::Global;
 
@@ -165,41 +166,41 @@ impl Root {
         }
     }
 
-    /// Adds the writes of changed nodes at these places, children first. Answers how many nodes that are, and the pointer to the root
-    /// then.
-    pub fn write(&self, places: &[u64], out: &mut Vec<Write>) -> Result<(usize, Child), OutOfMemory>
+    /// Adds the writes of changed nodes at the new places of these moves, children first. Answers how many nodes that are, and the
+    /// pointer to the root then.
+    pub fn write(&self, moves: &[Move], out: &mut Vec<Write>) -> Result<(usize, Child), OutOfMemory>
         requires shape { IsShaped (index_of self.now) }
-        requires enough { changes (index_of self.now).depth (index_of self.now).root ≤ length places.now }
-        requires ends { All (λ (p : ℕ). p + 2048 < 2 ^ 64) places.now }
-        ensures pointer { IfOk result (λ r. child_of r.1 ≡ pointer_of (index_of self.now).depth (placed (index_of self.now).depth places.now (index_of self.now).root)) }
-        ensures written { OnOk result (out.new.items ≡ out.old.items ++ writes_of (written (index_of self.now).depth places.now (index_of self.now).root)) }
-        ensures reads { OnOk result (AllRead (index_of self.now).depth places.now (index_of self.now).root) }
+        requires enough { changes (index_of self.now).depth (index_of self.now).root ≤ length moves.now }
+        requires ends { All (λ (p : ℕ). p + 2048 < 2 ^ 64) (news moves.now) }
+        ensures pointer { IfOk result (λ r. child_of r.1 ≡ pointer_of (index_of self.now).depth (placed (index_of self.now).depth (news moves.now) (index_of self.now).root)) }
+        ensures written { OnOk result (out.new.items ≡ out.old.items ++ writes_of (written (index_of self.now).depth (news moves.now) (index_of self.now).root)) }
+        ensures reads { OnOk result (AllRead (index_of self.now).depth (news moves.now) (index_of self.now).root) }
     {
         match self {
-            Root::Zero(root) => root.write(places, out),
-            Root::One(root) => root.write(places, out),
-            Root::Two(root) => root.write(places, out),
-            Root::Three(root) => root.write(places, out),
+            Root::Zero(root) => root.write(moves, out),
+            Root::One(root) => root.write(moves, out),
+            Root::Two(root) => root.write(moves, out),
+            Root::Three(root) => root.write(moves, out),
         }
     }
 
-    /// The changed nodes stand at these places from now on, and are clean.
-    pub fn settle(&mut self, places: &[u64])
-        requires { changes (index_of self.old).depth (index_of self.old).root ≤ length places.now }
-        ensures { index_of self.new ≡ planned places.now (index_of self.old) }
+    /// The changed nodes stand at the new places of these moves from now on, and are clean.
+    pub fn settle(&mut self, moves: &[Move])
+        requires { changes (index_of self.old).depth (index_of self.old).root ≤ length moves.now }
+        ensures { index_of self.new ≡ planned (news moves.now) (index_of self.old) }
     {
         match self {
             Root::Zero(root) => {
-                root.settle(places);
+                root.settle(moves);
             }
             Root::One(root) => {
-                root.settle(places);
+                root.settle(moves);
             }
             Root::Two(root) => {
-                root.settle(places);
+                root.settle(moves);
             }
             Root::Three(root) => {
-                root.settle(places);
+                root.settle(moves);
             }
         }
     }

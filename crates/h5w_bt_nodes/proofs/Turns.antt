@@ -1,15 +1,20 @@
 -- What a turn of a loop over children does.
-use Rattle.std.proofs.Common.{◌≡◌, ℕ, zero, suc, ◌+◌, List, [], ◌∷◌, ◌++◌, length, map, flat_map, take, drop, set, refl, sym, ap, ap₂, ◌∙◌, subst, Some, slice_get, add-one, append_assoc, drop-drop, length-append}
-use Rattle.std.proofs.lemmas.List.{map-append}
+use Rattle.std.proofs.Common.{◌≡◌, ℕ, zero, suc, ◌+◌, ◌-◌, List, [], ◌∷◌, ◌++◌, length, map, flat_map, take, drop, set, refl, sym, ap, ap₂, ◌∙◌, subst, Some, slice_get, add-one, append_assoc, drop-drop, length-append}
+use Rattle.std.proofs.lemmas.List.{drop-map, map-append, take_rest}
 use Rattle.std.proofs.lemmas.Grind.{flat_map-append}
 use Rattle.h5w_model.specs.Images.{pieces}
 use Rattle.h5w_model.specs.declared.piece.Write.{Write}
-use Rattle.h5w_bt_nodes.specs.Blocks.{EachBy, each_by, joined_blocks, writes_of}
+use Rattle.h5w_cache.specs.declared.moves.Move.{Move}
+use Rattle.h5w_bt_nodes.specs.Blocks.{EachBy, each_by, joined_blocks, news, writes_of}
 use Rattle.h5w_bt_nodes.proofs.Places.{some_same, none_is_not}
 
 -- places behind those that were taken, and behind as many more
 further : (k n : ℕ) (ps : List ℕ) → drop n (drop k ps) ≡ drop (k + n) ps
 further k n ps = drop-drop n k ps
+
+-- the places of the moves behind those that were taken
+pub news_rest : (ms : List Move) (k : ℕ) → news (take (length ms - k) (drop k ms)) ≡ drop k (news ms)
+news_rest ms k = ap news (take_rest ms k) ∙ sym (drop-map (λ (m : Move). m.new) k ms)
 
 pub drop_at_place : {T : Type 0} (cs : List T) (i : ℕ) (c : T) → slice_get cs i ≡ Some c → drop i cs ≡ c ∷ drop (suc i) cs
 drop_at_place [] i c e = absurd (none_is_not c e)

@@ -3,17 +3,18 @@ use Rattle.std.proofs.Common.{◌≡◌, ℕ, zero, suc, ◌+◌, ◌-◌, ◌<�
 use Rattle.std.specs.Prelude.{slice_index_or}
 use Rattle.std.specs.List.{All}
 use Rattle.std.proofs.lemmas.Bool.{cond-false}
-use Rattle.std.proofs.lemmas.List.{length-map}
-use Rattle.std.proofs.lemmas.List.Elements.{All-map}
+use Rattle.std.proofs.lemmas.List.{get_or-map, length-map}
+use Rattle.std.proofs.lemmas.List.Elements.{All-get_or, All-map}
 use Rattle.std.proofs.lemmas.Grind.{flat_map-append}
 use Rattle.h5w_model.specs.Numbers.{undefined}
 use Rattle.h5w_model.specs.Images.{pieces}
 use Rattle.h5w_model.specs.Trees.{ChildFields, btin_at, btin_bytes, btlf_at, btlf_bytes, capacity_of}
 use Rattle.h5w_model.specs.declared.piece.Write.{Write}
+use Rattle.h5w_cache.specs.declared.moves.Move.{Move}
 use Rattle.h5w_bt.specs.Parts.{IsNode, IsPointer, record_of}
 use Rattle.h5w_bt_nodes.specs.Nodes.{Tree, records_of, total_of}
 use Rattle.h5w_bt_nodes.specs.Shapes.{IsShape, IsShapedChild}
-use Rattle.h5w_bt_nodes.specs.Blocks.{AllRead, EachBy, ReadsBack, block_of, changes, each_by, joined_blocks, node_bytes, padded, placed, pointer_of, stood, writes_of, written}
+use Rattle.h5w_bt_nodes.specs.Blocks.{AllRead, EachBy, ReadsBack, block_of, changes, each_by, joined_blocks, news, node_bytes, padded, placed, pointer_of, stood, writes_of, written}
 use Rattle.h5w_bt_nodes.proofs.Shapes.{shape_few}
 use Rattle.h5w_bt_nodes.proofs.Placed.{each_all, each_length, placed_own, placed_total}
 
@@ -91,13 +92,14 @@ inner_reads d n ps t cs deep is each r e =
 -- ---- Places
 
 -- the place at which a node is written, whatever stands where there is none
-pub place_same : (ps : List ℕ) (k n : ℕ) → k ≡ n → suc n ≤ length ps → slice_index_or ps k 0 ≡ slice_index_or ps n undefined
-place_same ps k n e h = ap (λ (i : ℕ). slice_index_or ps i 0) e ∙ same_at ps n h
-  where
-    same_at : (ps : List ℕ) (n : ℕ) → suc n ≤ length ps → slice_index_or ps n 0 ≡ slice_index_or ps n undefined
-    same_at [] n h = absurd (omega (arith, h))
-    same_at (p ∷ ps) zero h = refl
-    same_at (p ∷ ps) (suc n) h = same_at ps n (omega (arith, h))
+pub place_same : (ms : List Move) (m : Move) (k n : ℕ) → k ≡ n → suc n ≤ length ms → (slice_index_or ms k m).new ≡ slice_index_or (news ms) n undefined
+place_same ms m k n e h = ap (λ (i : ℕ). (slice_index_or ms i m).new) e ∙ sym (get_or-map (λ (x : Move). x.new) ms n m undefined (omega (arith, h)))
+
+-- what holds of each new place
+pub place_has : (P : ℕ → Type 0) (ms : List Move) (m : Move) (k : ℕ) → k < length ms → All P (news ms) → P (slice_index_or ms k m).new
+place_has P ms m k h a =
+    let inside : k < length (news ms) = omega (arith, h, length-map ms (λ (x : Move). x.new)) in
+    subst P (get_or-map (λ (x : Move). x.new) ms k m 0 h) (All-get_or P (news ms) k 0 inside a)
 
 -- so many places are needed
 pub inner_changes : (d : ℕ) (t : Tree (suc d)) (n : ℕ) → t.clean ≡ false → changes (suc d) t ≤ n → suc (length (flat_map (stood d) t.children)) ≤ n

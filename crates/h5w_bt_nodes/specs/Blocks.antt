@@ -4,6 +4,7 @@ use Rattle.h5w_model.specs.Numbers.{undefined}
 use Rattle.h5w_model.specs.Images.{pieces}
 use Rattle.h5w_model.specs.Trees.{BtinFields, ChildFields, btlf_at, btlf_bytes, btin_at, btin_bytes, node_size}
 use Rattle.h5w_model.specs.declared.piece.Write.{Write}
+use Rattle.h5w_cache.specs.declared.moves.Move.{Move}
 use Rattle.h5w_bt.specs.Parts.{record_of}
 use Rattle.h5w_bt_nodes.specs.Nodes.{Tree, records_of, total_of}
 
@@ -21,6 +22,10 @@ stood (suc d) t = if t.clean then [] else flat_map (stood d) t.children ++ t.pla
 -- how many changed
 abbrev pub changes : (d : ℕ) → Tree d → ℕ
 changes d t = length (stood d t)
+
+-- the places that nodes get
+abbrev pub news : List Move → List ℕ
+news ms = map (λ (m : Move). m.new) ms
 
 -- what each of these gives by a list of places, of which each takes so many before the next
 abbrev pub each_by : {T A : Type 0} → (List ℕ → T → A) → (T → ℕ) → List ℕ → List T → List A

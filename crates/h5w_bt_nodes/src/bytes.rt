@@ -7,7 +7,8 @@ ghost use Rattle.h5w_bt.specs.Parts.{IsNode, child_of, record_of};
 ghost use Rattle.h5w_bt_nodes.specs.Blocks.{padded};
 
 use h5w_bt::{Btin, Btlf, Child, Children, NODE, Record, Records};
-use h5w_cache::{copied, put_pieces};
+use h5w_bytes::put_pieces;
+use h5w_cache::copied;
 use h5w_model::{OutOfMemory, Write};
 
 /// How many pieces a node has.

@@ -4,7 +4,7 @@ ghost use Rattle.h5w_model.specs.Trees.{capacity_of};
 ghost use Rattle.h5w_bt_nodes.specs.Nodes.{Tree, address_in, found, rank, records_of, total_of};
 ghost use Rattle.h5w_bt_nodes.specs.Puts.{changed_node, is_over, left_of, middle_of, put, right_of, settled};
 ghost use Rattle.h5w_bt_nodes.specs.Shapes.{IsShape, IsShapedChild};
-ghost use Rattle.h5w_bt_nodes.specs.Blocks.{AllRead, EachBy, changes, each_by, joined_blocks, placed, pointer_of, stood, writes_of, written};
+ghost use Rattle.h5w_bt_nodes.specs.Blocks.{AllRead, EachBy, changes, each_by, joined_blocks, news, placed, pointer_of, stood, writes_of, written};
 ghost use Rattle.h5w_bt.specs.Parts.{child_of};
 
 use crate::bytes::put_inner;
@@ -13,7 +13,7 @@ use crate::search::{put_record, replace_record, search};
 use crate::subtree::Subtree;
 use h5w_bt::{Child, Key, Record, capacity};
 use h5w_bytes::UNDEFINED;
-use h5w_cache::copied;
+use h5w_cache::{Move, copied};
 use h5w_model::{OutOfMemory, Write};
 use std::alloc::Global;
 
@@ -68,42 +68,42 @@ fn stood_below<C: Subtree>(children: &Vec<C>, out: &mut Vec<u64>) -> Result<(), 
     Ok(())
 }
 
-/// Adds the writes of changed nodes under these children at these places. Answers how many nodes those are, and the pointers to the
-/// children then.
+/// Adds the writes of changed nodes under these children at the new places of these moves. Answers how many nodes those are, and the
+/// pointers to the children then.
 #[inline(never)]
 fn write_below<C: Subtree>(
     children: &Vec<C>,
-    places: &[u64],
+    moves: &[Move],
     out: &mut Vec<Write>,
 ) -> Result<(usize, Vec<Child>), OutOfMemory>
     requires shallow { C.depth ≤ 3 }
     requires shape { All (IsShapedChild C.depth) (map C.tree children.now.items) }
-    requires enough { length (flat_map (stood C.depth) (map C.tree children.now.items)) ≤ length places.now }
-    requires ends { All (λ (p : ℕ). p + 2048 < 2 ^ 64) places.now }
+    requires enough { length (flat_map (stood C.depth) (map C.tree children.now.items)) ≤ length moves.now }
+    requires ends { All (λ (p : ℕ). p + 2048 < 2 ^ 64) (news moves.now) }
     ensures count { IfOk result (λ r. r.0 ≡ length (flat_map (stood C.depth) (map C.tree children.now.items))) }
-    ensures pointers { IfOk result (λ r. map child_of r.1.items ≡ map (pointer_of C.depth) (each_by (placed C.depth) (changes C.depth) places.now (map C.tree children.now.items))) }
-    ensures written { OnOk result (out.new.items ≡ out.old.items ++ writes_of (joined_blocks (each_by (written C.depth) (changes C.depth) places.now (map C.tree children.now.items)))) }
-    ensures reads { OnOk result (EachBy (AllRead C.depth) (changes C.depth) places.now (map C.tree children.now.items)) }
+    ensures pointers { IfOk result (λ r. map child_of r.1.items ≡ map (pointer_of C.depth) (each_by (placed C.depth) (changes C.depth) (news moves.now) (map C.tree children.now.items))) }
+    ensures written { OnOk result (out.new.items ≡ out.old.items ++ writes_of (joined_blocks (each_by (written C.depth) (changes C.depth) (news moves.now) (map C.tree children.now.items)))) }
+    ensures reads { OnOk result (EachBy (AllRead C.depth) (changes C.depth) (news moves.now) (map C.tree children.now.items)) }
 {
     let mut pointers = Vec::with_capacity(*children.allocator(), children.len())?;
     let mut below = 0usize;
     for child in children {
-        let (count, pointer) = child.write(&places[below..], out)?;
+        let (count, pointer) = child.write(&moves[below..], out)?;
         pointers.push(pointer)?;
         below += count;
     }
     Ok((below, pointers))
 }
 
-/// Changed nodes under these children stand at these places from now on, and are clean. Answers how many they are.
-fn settle_below<C: Subtree>(children: &mut Vec<C>, places: &[u64]) -> usize
-    requires { length (flat_map (stood C.depth) (map C.tree children.old.items)) ≤ length places.now }
+/// Changed nodes under these children stand at the new places of these moves from now on, and are clean. Answers how many they are.
+fn settle_below<C: Subtree>(children: &mut Vec<C>, moves: &[Move]) -> usize
+    requires { length (flat_map (stood C.depth) (map C.tree children.old.items)) ≤ length moves.now }
     ensures count { result ≡ length (flat_map (stood C.depth) (map C.tree children.old.items)) }
-    ensures placed { map C.tree children.new.items ≡ each_by (placed C.depth) (changes C.depth) places.now (map C.tree children.old.items) }
+    ensures placed { map C.tree children.new.items ≡ each_by (placed C.depth) (changes C.depth) (news moves.now) (map C.tree children.old.items) }
 {
     let mut below = 0usize;
     for at in 0..children.len() {
-        below += children[at].settle(&places[below..]);
+        below += children[at].settle(&moves[below..]);
     }
     below
 }
@@ -353,22 +353,22 @@ impl<C: Subtree> Subtree for Inner<C> {
         Ok(())
     }
 
-    fn write(&self, places: &[u64], out: &mut Vec<Write>) -> Result<(usize, Child), OutOfMemory> {
+    fn write(&self, moves: &[Move], out: &mut Vec<Write>) -> Result<(usize, Child), OutOfMemory> {
         if self.clean {
             return Ok((0, self.pointer(self.place)));
         }
-        let (below, children) = write_below(&self.children, places, out)?;
-        let place = places[below];
+        let (below, children) = write_below(&self.children, moves, out)?;
+        let place = moves[below].new;
         put_inner(&self.records, children, C::depth() + 1, place, out)?;
         Ok((below + 1, self.pointer(place)))
     }
 
-    fn settle(&mut self, places: &[u64]) -> usize {
+    fn settle(&mut self, moves: &[Move]) -> usize {
         if self.clean {
             return 0;
         }
-        let below = settle_below(&mut self.children, places);
-        self.place = places[below];
+        let below = settle_below(&mut self.children, moves);
+        self.place = moves[below].new;
         self.clean = true;
         below + 1
     }

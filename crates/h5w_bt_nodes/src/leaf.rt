@@ -7,7 +7,7 @@ use crate::search::{put_record, replace_record, search};
 use crate::subtree::Subtree;
 use h5w_bt::{Child, Key, Record, capacity};
 use h5w_bytes::UNDEFINED;
-use h5w_cache::copied;
+use h5w_cache::{Move, copied};
 use h5w_model::{OutOfMemory, Write};
 use std::alloc::Global;
 
@@ -112,20 +112,20 @@ impl Subtree for Leaf {
         Ok(())
     }
 
-    fn write(&self, places: &[u64], out: &mut Vec<Write>) -> Result<(usize, Child), OutOfMemory> {
+    fn write(&self, moves: &[Move], out: &mut Vec<Write>) -> Result<(usize, Child), OutOfMemory> {
         if self.clean {
             return Ok((0, self.pointer(self.place)));
         }
-        let place = places[0];
+        let place = moves[0].new;
         put_leaf(&self.records, place, out)?;
         Ok((1, self.pointer(place)))
     }
 
-    fn settle(&mut self, places: &[u64]) -> usize {
+    fn settle(&mut self, moves: &[Move]) -> usize {
         if self.clean {
             return 0;
         }
-        self.place = places[0];
+        self.place = moves[0].new;
         self.clean = true;
         1
     }

@@ -6,10 +6,11 @@ ghost use Rattle.h5w_model.specs.Trees.{capacity_of};
 ghost use Rattle.h5w_bt_nodes.specs.Nodes.{found, records_of, total_of};
 ghost use Rattle.h5w_bt_nodes.specs.Puts.{is_full_path, is_over, left_of, middle_of, put, right_of};
 ghost use Rattle.h5w_bt_nodes.specs.Shapes.{IsShape};
-ghost use Rattle.h5w_bt_nodes.specs.Blocks.{AllRead, changes, placed, pointer_of, stood, writes_of, written};
+ghost use Rattle.h5w_bt_nodes.specs.Blocks.{AllRead, changes, news, placed, pointer_of, stood, writes_of, written};
 ghost use Rattle.h5w_bt.specs.Parts.{child_of};
 
 use h5w_bt::{Child, Key, Record};
+use h5w_cache::Move;
 use h5w_model::{OutOfMemory, Write};
 use std::alloc::Global;
 
@@ -84,23 +85,23 @@ pub trait Subtree: Drop {
     fn stood(&self, out: &mut Vec<u64>) -> Result<(), OutOfMemory>
         ensures { OnOk result (out.new.items ≡ out.old.items ++ stood depth (tree self.now)) };
 
-    /// Adds the writes of its changed nodes at these places, children first. Answers how many nodes that are, and the pointer to it
-    /// then.
-    fn write(&self, places: &[u64], out: &mut Vec<Write>) -> Result<(usize, Child), OutOfMemory>
+    /// Adds the writes of its changed nodes at the new places of these moves, children first. Answers how many nodes that are, and the
+    /// pointer to it then.
+    fn write(&self, moves: &[Move], out: &mut Vec<Write>) -> Result<(usize, Child), OutOfMemory>
         requires shallow { depth ≤ 3 }
         requires shape { IsShape depth (capacity_of depth) (tree self.now) }
-        requires enough { changes depth (tree self.now) ≤ length places.now }
-        requires ends { All (λ (p : ℕ). p + 2048 < 2 ^ 64) places.now }
+        requires enough { changes depth (tree self.now) ≤ length moves.now }
+        requires ends { All (λ (p : ℕ). p + 2048 < 2 ^ 64) (news moves.now) }
         ensures count { IfOk result (λ r. r.0 ≡ changes depth (tree self.now)) }
-        ensures pointer { IfOk result (λ r. child_of r.1 ≡ pointer_of depth (placed depth places.now (tree self.now))) }
-        ensures written { OnOk result (out.new.items ≡ out.old.items ++ writes_of (written depth places.now (tree self.now))) }
-        ensures reads { OnOk result (AllRead depth places.now (tree self.now)) };
+        ensures pointer { IfOk result (λ r. child_of r.1 ≡ pointer_of depth (placed depth (news moves.now) (tree self.now))) }
+        ensures written { OnOk result (out.new.items ≡ out.old.items ++ writes_of (written depth (news moves.now) (tree self.now))) }
+        ensures reads { OnOk result (AllRead depth (news moves.now) (tree self.now)) };
 
-    /// Its changed nodes stand at these places from now on, and are clean. Answers how many they are.
-    fn settle(&mut self, places: &[u64]) -> usize
-        requires { changes depth (tree self.old) ≤ length places.now }
+    /// Its changed nodes stand at the new places of these moves from now on, and are clean. Answers how many they are.
+    fn settle(&mut self, moves: &[Move]) -> usize
+        requires { changes depth (tree self.old) ≤ length moves.now }
         ensures count { result ≡ changes depth (tree self.old) }
-        ensures placed { tree self.new ≡ placed depth places.now (tree self.old) };
+        ensures placed { tree self.new ≡ placed depth (news moves.now) (tree self.old) };
 
     /// A copy.
     fn copy(&self) -> Result<Self, OutOfMemory>

@@ -1,9 +1,7 @@
-use Rattle.std.proofs.Common.{◌+◌, ◌<◌, ◌^◌, ℕ, List, sym, subst}
-use Rattle.std.specs.List.{All}
 use Rattle.h5w_bt_index.proofs.Started.{moves_end}
 use Rattle.h5w_bt_index.proofs.plan.begin.Goals as goal
 
 pub writes_at-requires-clause-ends : goal.writes_at-requires-clause-ends
 writes_at-requires-clause-ends c =
     let taken = c.in_ok-moves.ensures.taken in
-    subst (λ (l : List ℕ). All (λ (p : ℕ). p + 2048 < 2 ^ 64) l) (sym c.in_ok-new.ensures) (moves_end c.args.places.now c.in_ok-moves.moves.items taken.taken taken.moves)
+    moves_end c.args.places.now c.in_ok-moves.moves.items taken.taken taken.moves

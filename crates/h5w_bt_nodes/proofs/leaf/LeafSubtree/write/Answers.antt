@@ -1,7 +1,7 @@
 use Rattle.std.proofs.Common.{◌≤◌, ◌++◌, ◌∙◌, zero, ap, refl, sym, append-nil, length, List, ℕ}
 use Rattle.std.proofs.lemmas.Bool.{both_ways, cond-true}
 use Rattle.h5w_bt_nodes.specs.Typed.{leaf_of}
-use Rattle.h5w_bt_nodes.specs.Blocks.{pointer_of, writes_of}
+use Rattle.h5w_bt_nodes.specs.Blocks.{news, pointer_of, writes_of}
 use Rattle.h5w_bt_nodes.proofs.Written.{leaf_changes, leaf_written, place_same}
 use Rattle.h5w_bt_nodes.proofs.leaf.LeafSubtree.write.Goals as goal
 
@@ -25,7 +25,7 @@ returns-then-self-clause-reads c = λ f. absurd (both_ways c.args.self.now.clean
 pub returns-clause-written : goal.returns-clause-written
 returns-clause-written c =
     let u = leaf_of c.args.self.now in
-    let ps = c.args.places.now in
-    let enough : 1 ≤ length ps = leaf_changes u (length ps) c.if-self.false c.requires.enough in
-    leaf_written ps u _ _ c.args.out.now.items c.put_leaf.new.out.items c.if-self.false (place_same ps 0 0 refl enough)
+    let ms = c.args.moves.now in
+    let enough : 1 ≤ length ms = leaf_changes u (length ms) c.if-self.false c.requires.enough in
+    leaf_written (news ms) u _ _ c.args.out.now.items c.put_leaf.new.out.items c.if-self.false (place_same ms _ 0 0 refl enough)
     refl c.in_ok-put_leaf.ensures.written
