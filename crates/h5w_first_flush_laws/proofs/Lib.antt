@@ -7,3 +7,7 @@ pub mod ArrayLeadLemmas
 pub mod StartFlushLemmas
 pub mod StartLeadLemmas
 pub mod StartCallLemmas
+pub mod AloneLemmas
+pub mod BlockFlushLemmas
+pub mod BlockLeadLemmas
+pub mod BlockCallLemmas

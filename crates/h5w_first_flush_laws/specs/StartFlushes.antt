@@ -7,6 +7,7 @@ use Rattle.h5w_model.specs.Headers.{with_rows_bytes}
 use Rattle.h5w_model.specs.Findings.{Used, chunk_bytes}
 use Rattle.h5w_model.specs.Logs.{Log, appended}
 use Rattle.h5w_model.specs.declared.piece.Write.{Write}
+use Rattle.h5w_model.specs.Tables.{format_limits}
 use Rattle.h5w_chunks.specs.declared.grid.ChunkPlace.{ChunkPlace}
 use Rattle.h5w_step_laws.specs.Files.{chunk_0, commit_at}
 use Rattle.h5w_space.specs.Space.{Space, Commits}
@@ -83,11 +84,11 @@ pub record IsStart (img : List ℕ) (m : Moment) (base b : Space) (u v : Store) 
 
 -- where a block that has a chunk's slot is changed, so is the index block
 abbrev pub HolderChanged : Type 0
-HolderChanged = (v : Store) (i : ℕ) → IsArray v → i < 131060 → is_changed v (number_of (holder i)) ≡ true → is_changed v (number_of index_block) ≡ true
+HolderChanged = (v : Store) (i : ℕ) → IsArray v → i < format_limits.array → is_changed v (number_of (holder i)) ≡ true → is_changed v (number_of index_block) ≡ true
 
 -- where a chunk has an address that it had not, and each chunk that got one has its slot in a changed block, so is the index block
 abbrev pub NamedChanged : Type 0
-NamedChanged = (u v : Store) (added : List ℕ) (i : ℕ) → IsArray v → All (λ j. (j < 131060) × (is_changed v (number_of (holder j)) ≡ true)) added
+NamedChanged = (u v : Store) (added : List ℕ) (i : ℕ) → IsArray v → All (λ j. (j < format_limits.array) × (is_changed v (number_of (holder j)) ≡ true)) added
     → ((k : ℕ) → All (λ j. j ≢ k) added → map_of v k ≡ map_of u k) → map_of u i ≡ undefined → map_of v i ≢ undefined → is_changed v (number_of index_block) ≡ true
 
 -- What a session shows of its array is what the array's calls give: of a blank store `u`, that when the chunks have their addresses, and its

@@ -43,12 +43,12 @@ use Rattle.h5w_first_flush_laws.specs.FirstFlushes.{no_chunk}
 use Rattle.h5w_first_flush_laws.specs.Starting.{IsBlank}
 use Rattle.h5w_first_flush_laws.specs.StartFlushes.{IsStarted}
 use Rattle.h5w_first_flush_laws.proofs.StartLemmas.{created_blank}
-use Rattle.h5w_block_laws.specs.HeaderAlone.{AloneKnows, IsHeaderAlone}
-use Rattle.h5w_block_laws.specs.BlockFlushes.{block_parts_for}
-use Rattle.h5w_block_laws.specs.BlockCalls.{AreBlockCalls}
-use Rattle.h5w_block_laws.proofs.AloneLemmas.{alone_begins, alone_ends}
-use Rattle.h5w_block_laws.proofs.BlockCallLemmas.{block_calls}
-use Rattle.h5w_block_laws.proofs.BlockLeadLemmas.{block_leads}
+use Rattle.h5w_first_flush_laws.specs.HeaderAlone.{AloneKnows, IsHeaderAlone}
+use Rattle.h5w_first_flush_laws.specs.BlockFlushes.{block_parts_for}
+use Rattle.h5w_first_flush_laws.specs.BlockCalls.{AreBlockCalls}
+use Rattle.h5w_first_flush_laws.proofs.AloneLemmas.{alone_begins, alone_ends}
+use Rattle.h5w_first_flush_laws.proofs.BlockCallLemmas.{block_calls}
+use Rattle.h5w_first_flush_laws.proofs.BlockLeadLemmas.{block_leads}
 use Rattle.h5w_session_examples.specs.AloneBytes.{alone_file}
 use Rattle.h5w_session_examples.specs.AloneFlush.{alone_found, alone_opened, alone_piece, alone_to_write, seven, seven_place, seven_writes, AreAloneCalls, BlockIt, BlockStarts, IsAloneFile}
 use Rattle.h5w_session_examples.proofs.UnnamedLemmas.{each_fits, one_apart, taken_from}

@@ -19,9 +19,9 @@ use Rattle.h5w_ea_index.specs.Steps.{IsHeld, IsSet}
 use Rattle.h5w_flush_laws.specs.Parts.{AreEnded}
 use Rattle.h5w_session_examples.specs.FirstFlush.{places_to}
 use Rattle.h5w_first_flush_laws.specs.StartFlushes.{IsStarted}
-use Rattle.h5w_block_laws.specs.HeaderAlone.{AloneKnows}
-use Rattle.h5w_block_laws.specs.BlockFlushes.{block_parts_for}
-use Rattle.h5w_block_laws.specs.BlockCalls.{CallsBlock}
+use Rattle.h5w_first_flush_laws.specs.HeaderAlone.{AloneKnows}
+use Rattle.h5w_first_flush_laws.specs.BlockFlushes.{block_parts_for}
+use Rattle.h5w_first_flush_laws.specs.BlockCalls.{CallsBlock}
 use Rattle.h5w_session_examples.specs.AloneBytes.{alone_file, alone_super}
 
 -- the file as it was found, and while a writer has it open; rows that have no chunk are read as the fill

@@ -1,4 +1,0 @@
-pub mod AloneLemmas
-pub mod BlockFlushLemmas
-pub mod BlockLeadLemmas
-pub mod BlockCallLemmas

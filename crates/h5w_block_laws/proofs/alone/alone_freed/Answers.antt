@@ -1,5 +1,0 @@
-use Rattle.h5w_block_laws.proofs.alone.alone_freed.Goals as goal
-use Rattle.h5w_block_laws.proofs.AloneLemmas as lemmas
-
-pub returns : goal.returns
-returns c = lemmas.alone_freed

@@ -1,5 +1,0 @@
-use Rattle.h5w_block_laws.proofs.flushes.block_pieces.Goals as goal
-use Rattle.h5w_block_laws.proofs.BlockFlushLemmas as lemmas
-
-pub returns : goal.returns
-returns c = lemmas.block_pieces

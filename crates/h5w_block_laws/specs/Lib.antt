@@ -1,3 +1,0 @@
-pub mod HeaderAlone
-pub mod BlockFlushes
-pub mod BlockCalls

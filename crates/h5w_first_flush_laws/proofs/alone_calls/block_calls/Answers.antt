@@ -1,0 +1,5 @@
+use Rattle.h5w_first_flush_laws.proofs.alone_calls.block_calls.Goals as goal
+use Rattle.h5w_first_flush_laws.proofs.BlockCallLemmas as lemmas
+
+pub returns : goal.returns
+returns c = lemmas.block_calls
