@@ -1,5 +1,5 @@
 -- The addresses in the slots of a block, by its bytes.
-use Rattle.std.proofs.Common.{◌≡◌, ℕ, zero, suc, ◌+◌, ◌-◌, ◌*◌, ◌<◌, ◌≤◌, List, ◌∷◌, ◌++◌, take, drop, get_or, refl, sym, ◌∙◌, ap, arith}
+use Rattle.std.proofs.Common.{◌≡◌, ℕ, zero, suc, ◌+◌, ◌-◌, ◌*◌, ◌<◌, ◌≤◌, List, ◌∷◌, take, drop, get_or, refl, sym, ◌∙◌, ap, arith}
 use Rattle.h5w_model.specs.Numbers.{field}
 use Rattle.h5w_model.specs.Arrays.{numbers_in}
 

@@ -1,3 +1,4 @@
+pub mod OutcomeLemmas
 pub mod PieceLemmas
 mod AddressLemmas
 pub mod GatherLemmas

@@ -1,5 +1,5 @@
 -- Looking up one chunk with a store of kept blocks.
-use Rattle.std.proofs.Common.{◌≡◌, ◌≢◌, ℕ, ◌-◌, List, get_or, Option, Some, None, Result, Ok, Err, refl, sym, ◌∙◌, ap}
+use Rattle.std.proofs.Common.{◌≡◌, ◌≢◌, ℕ, List, get_or, Option, Some, None, Result, Ok, Err, refl, sym, ◌∙◌, ap}
 use Rattle.std.proofs.lemmas.Bool.{eq-eqb, ne_eqb}
 use Rattle.h5w_model.specs.Programs.{Prog, ret, stored, and_then, lowered, cut_up, Kept, kept_bytes, used}
 use Rattle.h5w_model.specs.Numbers.{undefined}
@@ -7,7 +7,7 @@ use Rattle.h5w_model.specs.Arrays.{SlotsFields, EaibFields, super_block_of, plac
 use Rattle.h5w_model.specs.Datasets.{then_also, refused_as}
 use Rattle.h5w_model.specs.Tables.{Reading, array_slot, data_slot, secondary_slot, data_block, secondary_block}
 use Rattle.h5w_model.specs.declared.cell.Place.{Place}
-use Rattle.h5w_model.specs.declared.cell.Place.TheVariants.{Index, Second}
+use Rattle.h5w_model.specs.declared.cell.Place.TheVariants.{Index}
 use Rattle.h5w_model.specs.declared.refusal.BlockFault.{BlockFault}
 use Rattle.h5w_model.specs.declared.refusal.ReadError.{ReadError}
 use Rattle.h5w_model.specs.declared.refusal.ReadError.TheVariants.{Damaged}

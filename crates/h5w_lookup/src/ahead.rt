@@ -3,7 +3,7 @@ ghost use Rattle.std.specs.Prelude.{◌≡◌, ◌≤◌, ◌<◌, ◌+◌, ◌�
 ghost use Rattle.h5w_model.specs.Arrays.{EaibFields, super_block_of};
 ghost use Rattle.h5w_model.specs.Calls.{known_table};
 ghost use Rattle.h5w_model.specs.Programs.{Prog};
-ghost use Rattle.h5w_model.specs.Tables.{Reading, InPlace, array_slot, in_array, needed, secondary_slot};
+ghost use Rattle.h5w_model.specs.Tables.{Reading, InPlace, array_slot, in_array, needed, secondary_slot, format_limits};
 ghost use Rattle.h5w_model.specs.declared.refusal.ReadError.{ReadError};
 ghost use Rattle.h5w_ea.specs.Fields.{eaib_of};
 ghost use Rattle.h5w_lookup.specs.Ahead.{IsDataUsed, IsSecondUsed, IsAtHand, IsTaken, found_rest};
@@ -64,7 +64,7 @@ fn second(store: &mut Store, at: u64, sblock: u32, block: u64, slot: u64) -> Opt
 
 /// The slot of chunk number `i`, where it stands in a data block that is kept, behind blocks that are kept.
 fn at_hand(store: &mut Store, index: &Eaib, i: u64) -> Option<DataWait>
-    requires { i < 131060 }
+    requires { i < format_limits.array }
     ensures same { (next : ℕ → Prog (Result Reading ReadError)) → store_rest (kept store.new) (array_slot (eaib_of index.now) i) next ≡ store_rest (kept store.old) (array_slot (eaib_of index.now) i) next }
     ensures some { IfSome result (IsAtHand (kept store.new) (eaib_of index.now) i) }
 {

@@ -2,10 +2,10 @@
 ghost use Rattle.std.specs.Prelude.{◌≡◌, ◌+◌, ◌≤◌, ◌^◌, get_or, length, false, true, [], Ok, Some, IfOk};
 ghost use Rattle.h5w_model.specs.Numbers.{undefined};
 ghost use Rattle.h5w_model.specs.Calls.{known_table};
-ghost use Rattle.h5w_model.specs.Tables.{needed};
+ghost use Rattle.h5w_model.specs.Tables.{needed, format_limits};
 ghost use Rattle.h5w_dataset.specs.Described.{described_of};
 
-use crate::descent::{Descended, Descent, Waiting};
+use crate::descent::{Descent, Waiting};
 use crate::gather::Gather;
 use crate::index::Index;
 use crate::known::{Known, Rules};
@@ -25,7 +25,7 @@ use std::alloc::Global;
 #[derive(Clone, Copy)]
 pub struct Small {
     pub dataset: Dataset,
-    ghost few: { needed (described_of dataset) ≤ 131060 },
+    ghost few: { needed (described_of dataset) ≤ format_limits.array },
 }
 
 /// A dataset that needs no more chunks than are read of a tree.
@@ -65,21 +65,9 @@ impl Lookup {
     ghost use Rattle.h5w_model.specs.Calls.{CallRules};
     ghost use Rattle.h5w_lookup.specs.Indexes.{IsIndexOf, in_place_of};
     ghost use Rattle.h5w_lookup.specs.Attempts.{known_of, rules_of, looked_up, table_rest, array_rest, index_rest, tree_rest, looking_up};
-    ghost use Rattle.h5w_lookup.specs.Descents.{descended};
     ghost use Rattle.h5w_lookup.specs.Slots.{slots_rest};
     ghost use Rattle.h5w_model.specs.Programs.{next_look, fed};
     ghost use Rattle.h5w_lookup.specs.Looks.{look_of, IsWithinLook};
-
-    /// What a descent comes to.
-    fn of(d: Descended) -> LookedUp
-        ensures { (g : CallRules) → looked_up g result ≡ descended g d }
-    {
-        match d {
-            Outcome::Done(news) => Outcome::Done(news),
-            Outcome::Refused(error) => Outcome::Refused(error),
-            Outcome::Looks(waiting) => Outcome::Looks(Lookup::Block(waiting)),
-        }
-    }
 
     /// From the blocks in place on.
     fn descend(
@@ -100,7 +88,8 @@ impl Lookup {
             store: Store::new(alloc)?,
             front: None,
         };
-        Ok(Lookup::of(descent.go_on(alloc, rules, known)?))
+        let descended = descent.go_on(alloc, rules, known)?;
+        Ok(descended.map_looks(Lookup::Block))
     }
 
     /// From the dataset's index on. Nothing is looked at where each needed chunk's address is known, nor without an index.
@@ -111,7 +100,7 @@ impl Lookup {
         d: &Dataset,
     ) -> Result<LookedUp, OutOfMemory>
         requires few { needed (described_of d.now) ≤ 1000000 }
-        requires array { d.now.shape.growing ≡ false → needed (described_of d.now) ≤ 131060 }
+        requires array { d.now.shape.growing ≡ false → needed (described_of d.now) ≤ format_limits.array }
         ensures { IfOk result (λ l. looked_up (rules_of rules.now (known_of known.now)) l ≡ table_rest rules.now.place (known_table (known_of known.now) (described_of d.now)) (described_of d.now)) }
     {
         let needed = d.needed() as usize;
@@ -145,7 +134,7 @@ impl Lookup {
         at: u64,
         bytes: &[u8],
     ) -> Result<LookedUp, OutOfMemory>
-        requires few { needed (described_of d.now) ≤ 131060 }
+        requires few { needed (described_of d.now) ≤ format_limits.array }
         requires inside { at + length bytes.now ≤ 2 ^ 64 }
         ensures { IfOk result (λ l. looked_up (rules_of rules.now (known_of known.now)) l ≡ array_rest rules.now.place (known_table (known_of known.now) (described_of d.now)) (described_of d.now) at bytes.now) }
     {
@@ -170,7 +159,7 @@ impl Lookup {
         at: u64,
         bytes: &[u8],
     ) -> Result<LookedUp, OutOfMemory>
-        requires few { needed (described_of d.now) ≤ 131060 }
+        requires few { needed (described_of d.now) ≤ format_limits.array }
         requires inside { at + length bytes.now ≤ 2 ^ 64 }
         ensures { IfOk result (λ l. looked_up (rules_of rules.now (known_of known.now)) l ≡ index_rest rules.now.place (known_table (known_of known.now) (described_of d.now)) (described_of d.now) at bytes.now) }
     {
@@ -270,7 +259,8 @@ impl Lookup {
             }
             Lookup::Block(waiting) => {
                 let waiting = Box::into_inner(waiting);
-                Ok(Lookup::of(waiting.feed(alloc, rules, known, piece)?))
+                let descended = waiting.feed(alloc, rules, known, piece)?;
+                Ok(descended.map_looks(Lookup::Block))
             }
         }
     }

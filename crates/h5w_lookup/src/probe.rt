@@ -3,7 +3,7 @@ ghost use Rattle.std.specs.Prelude.{◌≡◌, ◌+◌, ◌≤◌, ◌<◌, ℕ,
 ghost use Rattle.h5w_model.specs.Numbers.{undefined};
 ghost use Rattle.h5w_model.specs.Arrays.{super_block_of};
 ghost use Rattle.h5w_model.specs.Programs.{Prog};
-ghost use Rattle.h5w_model.specs.Tables.{Reading, address_behind, array_slot, data_slot, key_below, secondary_slot, super_block_of_first, tree_lookup};
+ghost use Rattle.h5w_model.specs.Tables.{Reading, address_behind, array_slot, data_slot, key_below, secondary_slot, super_block_of_first, tree_lookup, format_limits};
 ghost use Rattle.h5w_model.specs.declared.refusal.ReadError.{ReadError};
 ghost use Rattle.h5w_ea.specs.Fields.{eaib_of};
 ghost use Rattle.h5w_lookup.specs.Seeking.{store_rest};
@@ -110,7 +110,7 @@ impl Probe {
 
     /// The address of chunk number `i` of an array.
     fn array(store: &mut Store, index: &Eaib, i: u64) -> Probe
-        requires { i < 131060 }
+        requires { i < format_limits.array }
         ensures exact { (next : ℕ → Prog (Result Reading ReadError)) → probed (kept store.new) next result ≡ store_rest (kept store.old) (array_slot (eaib_of index.now) i) next }
         ensures alone { span_of result ≡ None }
     {

@@ -1,5 +1,6 @@
 -- The way from the superblock to the messages of the root header.
 use Rattle.std.proofs.Common.{◌≡◌, ℕ, ◌+◌, ◌-◌, ◌<◌, ◌≤◌, ◌^◌, true, false, cond, ltb, List, [], ◌++◌, Result, Ok, Err, refl, ◌∙◌, ap, arith}
+use Rattle.std.specs.Global.{Vec}
 use Rattle.std.proofs.lemmas.Bool.{lt-ltb, le-ltb}
 use Rattle.h5w_model.specs.Programs.{Prog, ret, whole, bind, and_then, cut_up, below_end}
 use Rattle.h5w_model.specs.Headers.{prefix_at}
@@ -11,9 +12,21 @@ use Rattle.h5w_model.specs.declared.refusal.ReadError.{ReadError}
 use Rattle.h5w_model.specs.declared.refusal.HeaderError.{HeaderError}
 use Rattle.h5w_lookup.specs.Looks.{plain}
 use Rattle.h5w_lookup.specs.Gathering.{gather_from, cut_behind}
-use Rattle.h5w_reader.specs.Walking.{messages_of, chunk_0_rest}
-use Rattle.h5w_reader.specs.Opening.{root_messages, root_rest, super_rest, first_rest, look_rest}
+use Rattle.h5w_lookup.specs.Outcomes.{IsMapped}
+use Rattle.h5w_lookup.specs.declared.outcome.Outcome.{Outcome}
+use Rattle.h5w_lookup.proofs.OutcomeLemmas.{mapped_left}
+use Rattle.h5w_dataset.specs.Founds.{founds}
+use Rattle.h5w_dataset.specs.declared.found.FoundMessage.{FoundMessage}
+use Rattle.h5w_reader.specs.Walking.{messages_of, chunk_0_rest, walking, walked}
+use Rattle.h5w_reader.specs.Opening.{root_messages, root_rest, super_rest, first_rest, look_rest, opening, opened}
+use Rattle.h5w_reader.specs.declared.walk.Block.{Block}
+use Rattle.h5w_reader.specs.declared.open.Opening.{Opening}
+use Rattle.h5w_reader.specs.declared.open.Opening.TheVariants.{Visit}
 use Rattle.h5w_lookup.proofs.PieceLemmas.{cut_up_is, cut_up_behind}
+
+-- what a visit of the root header's messages comes to is what the way comes to
+pub opened_walked : (w : Outcome (Vec FoundMessage) Block) (o : Outcome (Vec FoundMessage) Opening) → IsMapped (λ b v. v ≡ Visit b) w o → opened o ≡ walked w
+opened_walked w o mapped = mapped_left (λ fs. founds fs.items) walking Visit opening w o mapped (λ b. refl)
 
 -- ---- The root header
 

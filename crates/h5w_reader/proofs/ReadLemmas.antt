@@ -16,8 +16,12 @@ use Rattle.h5w_model.specs.declared.refusal.ReadError.TheVariants.{Damaged}
 use Rattle.h5w_model.specs.declared.refusal.BlockFault.TheVariants.{Cut}
 use Rattle.h5w_lookup.specs.Looks.{plain}
 use Rattle.h5w_lookup.specs.Gathering.{cut_behind}
+use Rattle.h5w_lookup.specs.Outcomes.{outcome_of}
+use Rattle.h5w_lookup.specs.declared.outcome.Progress.{Progress}
+use Rattle.h5w_lookup.specs.declared.outcome.Progress.TheVariants.{Done, Looks}
+use Rattle.h5w_reader.specs.declared.values.Reads.{Reads}
 use Rattle.h5w_reader.specs.Cells.{cell_values}
-use Rattle.h5w_reader.specs.Values.{rows_in_band, band_values, bands_from, end_band, rows_rest, band_rest, reading_with, past_values}
+use Rattle.h5w_reader.specs.Values.{rows_in_band, band_values, bands_from, end_band, rows_rest, band_rest, reading_with, past_values, goes, valued}
 use Rattle.h5w_dataset.specs.Described.{described_of}
 use Rattle.h5w_dataset.specs.declared.dataset.Dataset.{Dataset}
 use Rattle.h5w_lookup.specs.declared.known.Known.{Known}
@@ -37,6 +41,11 @@ pub record IsTouched (r : Reading) (from to i : ℕ) : Type 0 where
 -- how many rows of the band's chunk stand before those that are asked for
 abbrev pub rows_before : Reading → ℕ → ℕ → ℕ
 rows_before r i from = first_in_band r.dataset i from - i * r.dataset.layout.chunk_rows
+
+-- what goes on refuses nothing
+pub valued_goes : (k : Known) (g : Progress (List ℤ) Reads) → valued k (outcome_of g) ≡ goes k g
+valued_goes k (Done vs) = refl
+valued_goes k (Looks s) = refl
 
 -- ---- The range of a chunk
 

@@ -27,19 +27,7 @@ impl Behind {
     ghost use Rattle.h5w_lookup.specs.Looks.{look_of, IsWithinLook};
     ghost use Rattle.h5w_reader.specs.Calling.{behind_left, reached, messages_rest, behind_rest};
     ghost use Rattle.h5w_reader.specs.Walking.{walked};
-    ghost use Rattle.h5w_lookup.specs.Attempts.{looked_up};
     ghost use Rattle.h5w_reader.specs.Headers.{IsView};
-
-    /// What the lookup of addresses comes to.
-    fn of(l: Outcome<News, Lookup>) -> Reached
-        ensures { (g : CallRules) → reached g result ≡ looked_up g l }
-    {
-        match l {
-            Outcome::Done(news) => Outcome::Done(news),
-            Outcome::Refused(error) => Outcome::Refused(error),
-            Outcome::Looks(lookup) => Outcome::Looks(Behind::Lookup(lookup)),
-        }
-    }
 
     /// Goes on from what the visit of the dataset header's messages comes to.
     fn after_walk(
@@ -51,7 +39,10 @@ impl Behind {
         ensures { IfOk result (λ r. reached (rules_of rules.now (known_of known.now)) r ≡ messages_rest (rules_of rules.now (known_of known.now)) (walked w)) }
     {
         match w {
-            Outcome::Done(found) => Ok(Behind::of(settle(alloc, rules, known, &found)?)),
+            Outcome::Done(found) => {
+                let looked_up = settle(alloc, rules, known, &found)?;
+                Ok(looked_up.map_looks(Behind::Lookup))
+            }
             Outcome::Refused(error) => Ok(Outcome::Refused(error)),
             Outcome::Looks(block) => Ok(Outcome::Looks(Behind::Visit(block))),
         }
@@ -122,7 +113,10 @@ impl Behind {
             Behind::Visit(block) => {
                 Behind::after_walk(alloc, rules, known, block.feed(alloc, piece)?)
             }
-            Behind::Lookup(lookup) => Ok(Behind::of(lookup.feed(alloc, rules, known, piece)?)),
+            Behind::Lookup(lookup) => {
+                let looked_up = lookup.feed(alloc, rules, known, piece)?;
+                Ok(looked_up.map_looks(Behind::Lookup))
+            }
         }
     }
 }

@@ -311,7 +311,7 @@ impl Grid {
             Progress::Looks(reads) => return Ok(Outcome::Looks(reads)),
         };
         let goes = self.go_on(alloc, known, band + 1, values)?;
-        Ok(Reads::of(goes))
+        Ok(Outcome::from(goes))
     }
 }
 

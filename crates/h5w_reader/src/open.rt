@@ -3,7 +3,7 @@ ghost use Rattle.std.specs.Prelude.{◌≡◌, ◌+◌, ◌<◌, ◌≤◌, ◌^
 ghost use Rattle.h5w_model.specs.Datasets.{is_swmr, super_of};
 
 use crate::view::root_view;
-use crate::walk::{Block, Walk, Walked};
+use crate::walk::{Block, Walk};
 use h5w_dataset::{FoundMessage, header_refusal, super_refusal};
 use h5w_lookup::{Gather, Look, Outcome, Progress, look_at};
 use h5w_model::{Bytes, OutOfMemory, PIECE, Piece, Prefix, ReadError};
@@ -52,18 +52,6 @@ impl Opening {
     ghost use Rattle.h5w_model.specs.Programs.{next_look, fed};
     ghost use Rattle.h5w_lookup.specs.Looks.{look_of, IsWithinLook};
     ghost use Rattle.h5w_reader.specs.Opening.{opening, opened, root_messages, first_rest};
-    ghost use Rattle.h5w_reader.specs.Walking.{walked, chunk_0_rest};
-
-    /// What the visit of the root header's messages comes to.
-    fn of(w: Walked) -> Opened
-        ensures { opened result ≡ walked w }
-    {
-        match w {
-            Outcome::Done(found) => Outcome::Done(found),
-            Outcome::Refused(error) => Outcome::Refused(error),
-            Outcome::Looks(block) => Outcome::Looks(Opening::Visit(block)),
-        }
-    }
 
     /// Goes on from what counts of the first look at the root header.
     fn after_look(alloc: Global, place: u64, first: &Bytes) -> Result<Opened, OutOfMemory>
@@ -77,10 +65,12 @@ impl Opening {
             Err(error) => return Ok(Outcome::Refused(header_refusal(place, 0, error)?)),
         };
         if p.total <= PIECE as u64 {
-            return Ok(Opening::of(Walk::start(alloc, place, &p, bytes)?));
+            let walked = Walk::start(alloc, place, &p, bytes)?;
+            return Ok(walked.map_looks(Opening::Visit));
         }
         if u64::MAX - place < PIECE as u64 {
-            return Ok(Opening::of(Walk::start(alloc, place, &p, bytes)?));
+            let walked = Walk::start(alloc, place, &p, bytes)?;
+            return Ok(walked.map_looks(Opening::Visit));
         }
         let behind = place + PIECE as u64;
         let got = Vec::from_slice(alloc, bytes)?;
@@ -131,11 +121,15 @@ impl Opening {
                 match gather.feed(piece)? {
                     Progress::Looks(gather) => Ok(Outcome::Looks(Opening::Rest(p, gather))),
                     Progress::Done(bytes) => {
-                        Ok(Opening::of(Walk::start(alloc, place, &p, &bytes)?))
+                        let walked = Walk::start(alloc, place, &p, &bytes)?;
+                        Ok(walked.map_looks(Opening::Visit))
                     }
                 }
             }
-            Opening::Visit(block) => Ok(Opening::of(block.feed(alloc, piece)?)),
+            Opening::Visit(block) => {
+                let walked = block.feed(alloc, piece)?;
+                Ok(walked.map_looks(Opening::Visit))
+            }
         }
     }
 }

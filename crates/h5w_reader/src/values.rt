@@ -178,7 +178,7 @@ impl Span {
         }
         put_cells(&bytes[..len as usize], &self.dataset.int_type, &mut values)?;
         let goes = self.go_on(alloc, known, band + 1, values)?;
-        Ok(Reads::of(goes))
+        Ok(Outcome::from(goes))
     }
 }
 
@@ -217,16 +217,6 @@ impl Reads {
     ghost use Rattle.h5w_model.specs.Calls.{values_call};
     ghost use Rattle.h5w_lookup.specs.Attempts.{reading_of};
     ghost use Rattle.h5w_reader.specs.Values.{goes, reading_values, valued};
-
-    /// What a look makes of a read that goes on so.
-    pub fn of(going: Progress<Values, Reads>) -> Valued
-        ensures { (k : Known) → valued k result ≡ goes k going }
-    {
-        match going {
-            Progress::Done(values) => Outcome::Done(values),
-            Progress::Looks(reads) => Outcome::Looks(reads),
-        }
-    }
 
     /// Begins a read of `count` rows from row `from` on. Chunks that are not there are not looked at.
     pub fn begin(

@@ -5,17 +5,9 @@ use h5w_bytes::number;
 use h5w_dataset::{FoundMessage, header_refusal, put_before};
 use h5w_lookup::{Gather, Look, Outcome, Progress};
 use h5w_model::{BlockFault, HeaderError, OutOfMemory, Piece, Prefix, ReadError};
-use h5w_ohdr::{block, messages};
+use h5w_ohdr::kind::CONTINUATION;
+use h5w_ohdr::{BLOCKS, LEAST, block, messages};
 use std::alloc::Global;
-
-/// The type of a continuation message.
-const CONTINUATION: u8 = 0x10;
-
-/// The fewest bytes of a continuation block.
-const LEAST: u64 = 8;
-
-/// The most continuation blocks of a header.
-const BLOCKS: u8 = 32;
 
 /// How far the visit of a header's messages came.
 #[derive(Drop)]

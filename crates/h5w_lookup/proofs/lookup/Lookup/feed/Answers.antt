@@ -1,10 +1,13 @@
-use Rattle.std.proofs.Common.{length, ◌∙◌, ap}
+use Rattle.std.proofs.Common.{length, refl, ◌∙◌, ap}
+use Rattle.std.specs.Global.{Box}
 use Rattle.h5w_model.specs.Programs.{fed}
 use Rattle.h5w_dataset.specs.Described.{described_of}
 use Rattle.h5w_model.specs.Calls.{known_table}
 use Rattle.h5w_lookup.specs.Attempts.{known_of, rules_of, looked_up, looking_up, array_rest, index_rest, tree_rest}
-use Rattle.h5w_lookup.specs.Descents.{waiting}
+use Rattle.h5w_lookup.specs.Descents.{reading_news, waiting}
 use Rattle.h5w_lookup.specs.declared.descent.Waiting.{Waiting}
+use Rattle.h5w_lookup.specs.declared.lookup.Lookup.TheVariants.{Block}
+use Rattle.h5w_lookup.proofs.OutcomeLemmas.{mapped_left}
 use Rattle.h5w_lookup.proofs.PieceLemmas.{along}
 use Rattle.h5w_lookup.proofs.GatherLemmas.{fed_more, fed_whole, fits_gather}
 use Rattle.h5w_lookup.proofs.lookup.Lookup.feed.Goals as goal
@@ -57,7 +60,9 @@ returns-in-Done-3 c =
     along (looked_up (rules_of c.args.rules.now (known_of c.args.known.now))) c.after_tree.result (tree_rest c.args.rules.now.place (known_table (known_of c.args.known.now) d) d c.start-at-in-Tree.result c.deref-in-Done-3.result.now) (fed c.args.piece.now (looking_up (rules_of c.args.rules.now (known_of c.args.known.now)) c.args.self)) c.after_tree.ensures
     (rw (c.in-Tree.is, c.start-at-in-Tree.ensures, c.deref-in-Done-3.ensures.value) whole)
 
-pub returns-in_ok-feed-in-Block : goal.returns-in_ok-feed-in-Block
-returns-in_ok-feed-in-Block c =
+pub returns-in_ok-descended-in-Block : goal.returns-in_ok-descended-in-Block
+returns-in_ok-descended-in-Block c =
     let g = rules_of c.args.rules.now (known_of c.args.known.now) in
-    rw c.in-Block.is (c.of.ensures g ∙ c.in_ok-feed-in-Block.ensures ∙ ap (λ (w : Waiting). fed c.args.piece.now (waiting g w)) c.into_inner-waiting.ensures)
+    rw c.in-Block.is (mapped_left (reading_news g.known) (λ (w : Box Waiting). waiting g w.value) Block (looking_up g) c.in_ok-descended-in-Block.descended c.map_looks.result c.map_looks.ensures (λ w. refl)
+    ∙ c.in_ok-descended-in-Block.ensures
+    ∙ ap (λ (w : Waiting). fed c.args.piece.now (waiting g w)) c.into_inner-waiting.ensures)

@@ -1,8 +1,11 @@
-use Rattle.std.proofs.Common.{length, sym, ◌∙◌, ap}
+use Rattle.std.proofs.Common.{length, refl, sym, ◌∙◌, ap}
 use Rattle.h5w_model.specs.Programs.{fed}
 use Rattle.h5w_reader.specs.Walking.{walking, walked}
-use Rattle.h5w_lookup.specs.Attempts.{known_of, rules_of}
+use Rattle.h5w_lookup.specs.Attempts.{known_of, rules_of, looking_up}
+use Rattle.h5w_lookup.specs.Descents.{reading_news}
 use Rattle.h5w_reader.specs.Calling.{behind_left, messages_rest, reached}
+use Rattle.h5w_reader.specs.declared.behind.Behind.TheVariants.{Lookup}
+use Rattle.h5w_lookup.proofs.OutcomeLemmas.{mapped_left}
 use Rattle.h5w_lookup.proofs.PieceLemmas.{along}
 use Rattle.h5w_reader.proofs.CallLemmas.{fed_bind, fits_bind}
 use Rattle.h5w_reader.proofs.StageLemmas.{walking_looks}
@@ -21,7 +24,8 @@ returns-in_ok-feed-in-Visit c =
     along (reached g) c.after_walk.result (messages_rest g (walked c.in_ok-feed-in-Visit.field-0)) (fed piece (behind_left g c.args.self)) c.after_walk.ensures
     (rw c.in-Visit.is (ap (messages_rest g) c.in_ok-feed-in-Visit.ensures ∙ sym (fed_bind (walking b) _ piece _ (walking_looks b))))
 
-pub returns-in_ok-feed-in-Lookup : goal.returns-in_ok-feed-in-Lookup
-returns-in_ok-feed-in-Lookup c =
+pub returns-in_ok-looked_up-in-Lookup : goal.returns-in_ok-looked_up-in-Lookup
+returns-in_ok-looked_up-in-Lookup c =
     let g = rules_of c.args.rules.now (known_of c.args.known.now) in
-    rw c.in-Lookup.is (c.of.ensures g ∙ c.in_ok-feed-in-Lookup.ensures)
+    rw c.in-Lookup.is (mapped_left (reading_news g.known) (looking_up g) Lookup (behind_left g) c.in_ok-looked_up-in-Lookup.looked_up c.map_looks.result c.map_looks.ensures (λ l. refl)
+    ∙ c.in_ok-looked_up-in-Lookup.ensures)

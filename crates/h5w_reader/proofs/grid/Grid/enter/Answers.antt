@@ -2,8 +2,10 @@ use Rattle.std.proofs.Common.{◌≡◌, ◌<◌, ◌≤◌, ◌∙◌, ◌∷�
 use Rattle.std.proofs.lemmas.List.{length-append}
 use Rattle.h5w_reader.specs.Bands.{reading_with}
 use Rattle.h5w_reader.specs.Banding.{banded}
+use Rattle.h5w_reader.specs.Values.{valued}
 use Rattle.h5w_reader.specs.Grids.{AreWhole, grid_rest, touched_len}
 use Rattle.h5w_dataset.specs.Described.{described_of}
+use Rattle.h5w_reader.proofs.ReadLemmas.{valued_goes}
 use Rattle.h5w_reader.proofs.SideLemmas.{grid_cut, grid_read, whole_some}
 use Rattle.h5w_reader.proofs.grid.Grid.enter.Goals as goal
 
@@ -65,7 +67,8 @@ returns c =
     let size : c.range-len.result.1 ≡ touched_len d i (length old) s.from s.to = subst (λ m. c.range-len.result.1 ≡ touched_len d i m s.from s.to) (c.len.ensures ∙ long) c.range-len.ensures.len in
     let enough : c.range-len.result.1 ≤ length b = omega (arith, c.len-got.ensures, c.args.bytes.ok.0, c.if-got-len.false) in
     let items : c.push.new.self.items ≡ old ++ Some b ∷ [] = c.in_ok-push.ensures.items ∙ ap (λ (x : List ℕ). old ++ Some x ∷ []) c.from_vec-range.ensures in
-    c.of.ensures k
+    ap (valued k) c.from.ensures
+    ∙ valued_goes k c.in_ok-goes.goes
     ∙ c.in_ok-goes.ensures
     ∙ ap (banded k s i) (sym c.in-Done.is)
     ∙ c.in_ok-through.ensures

@@ -1,7 +1,7 @@
 use Rattle.std.proofs.Common.{◌≡◌, ◌≤◌, ◌^◌, ◌+◌, ◌∙◌, length, sym, Ok, Err, arith}
 use Rattle.h5w_model.specs.Headers.{prefix_at}
 use Rattle.h5w_dataset.proofs.ListedLemmas.{prefix_never}
-use Rattle.h5w_reader.proofs.OpenLemmas.{first_err, first_small, first_long, first_edge}
+use Rattle.h5w_reader.proofs.OpenLemmas.{first_err, first_small, first_long, first_edge, opened_walked}
 use Rattle.h5w_reader.proofs.open.Opening.after_look.Goals as goal
 
 pub new-rest-requires-clause-behind : goal.new-rest-requires-clause-behind
@@ -22,14 +22,14 @@ pub returns-then-p : goal.returns-then-p
 returns-then-p c =
     let first = c.args.first.now in
     let said : prefix_at first ≡ Ok c.in-Ok.p = rw (← c.as_slice-bytes.ensures) (sym c.prefix.ensures.exact ∙ c.in-Ok.is) in
-    c.of.ensures ∙ c.in_ok-start.ensures ∙ rw c.as_slice-bytes.ensures (sym (first_small c.args.place first c.in-Ok.p said c.if-p.true))
+    opened_walked c.in_ok-walked.walked c.map_looks.result c.map_looks.ensures ∙ c.in_ok-walked.ensures ∙ rw c.as_slice-bytes.ensures (sym (first_small c.args.place first c.in-Ok.p said c.if-p.true))
 
 pub returns-then-place : goal.returns-then-place
 returns-then-place c =
     let first = c.args.first.now in
     let said : prefix_at first ≡ Ok c.in-Ok.p = rw (← c.as_slice-bytes.ensures) (sym c.prefix.ensures.exact ∙ c.in-Ok.is) in
     let edge : 2 ^ 64 ≤ c.args.place + 512 = omega arith in
-    c.of-then-place.ensures ∙ c.in_ok-start-2.ensures ∙ rw c.as_slice-bytes.ensures (sym (first_edge c.args.place first c.in-Ok.p said c.if-p.false edge))
+    opened_walked c.in_ok-walked-2.walked c.map_looks-then-place.result c.map_looks-then-place.ensures ∙ c.in_ok-walked-2.ensures ∙ rw c.as_slice-bytes.ensures (sym (first_edge c.args.place first c.in-Ok.p said c.if-p.false edge))
 
 pub returns : goal.returns
 returns c =

@@ -3,7 +3,7 @@ use Rattle.h5w_model.specs.Datasets.{super_of}
 use Rattle.h5w_reader.specs.Walking.{chunk_0_rest}
 use Rattle.h5w_reader.specs.Opening.{super_rest}
 use Rattle.h5w_lookup.proofs.GatherLemmas.{fed_more, fed_whole, fits_gather}
-use Rattle.h5w_reader.proofs.OpenLemmas.{super_ok, super_err}
+use Rattle.h5w_reader.proofs.OpenLemmas.{super_ok, super_err, opened_walked}
 use Rattle.h5w_reader.proofs.open.Opening.feed.Goals as goal
 use Rattle.h5w_reader.proofs.open.Opening.feed.Goals.{in-Ok, in-Err}
 
@@ -33,8 +33,8 @@ returns-in-Looks-2 c =
     let e = rw c.in-Looks-2.is at c.in_ok-gather-in-Rest.ensures in
     rw (c.in-Rest.is, e.start) (fed_more c.in-Rest.gather c.in-Looks-2.gather c.args.piece.now (chunk_0_rest c.in-Rest.gather.start c.in-Rest.p) e.left)
 
-pub returns-in_ok-start-in-Done-2 : goal.returns-in_ok-start-in-Done-2
-returns-in_ok-start-in-Done-2 c =
+pub returns-in_ok-walked-in-Done-2 : goal.returns-in_ok-walked-in-Done-2
+returns-in_ok-walked-in-Done-2 c =
     let e = rw c.in-Done-2.is at c.in_ok-gather-in-Rest.ensures in
     let whole = fed_whole c.in-Rest.gather c.in-Done-2.bytes.items c.args.piece.now (chunk_0_rest c.in-Rest.gather.start c.in-Rest.p) e.left in
-    rw c.in-Rest.is (c.of.ensures ∙ c.in_ok-start-in-Done-2.ensures ∙ rw (c.start-place.ensures, c.deref-in-Done-2.ensures.value) whole)
+    rw c.in-Rest.is (opened_walked c.in_ok-walked-in-Done-2.walked c.map_looks.result c.map_looks.ensures ∙ c.in_ok-walked-in-Done-2.ensures ∙ rw (c.start-place.ensures, c.deref-in-Done-2.ensures.value) whole)

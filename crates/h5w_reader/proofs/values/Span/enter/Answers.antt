@@ -1,6 +1,6 @@
-use Rattle.std.proofs.Common.{◌∙◌, take, refl, sym}
-use Rattle.h5w_reader.specs.Values.{reading_with}
-use Rattle.h5w_reader.proofs.ReadLemmas.{some_size, span_touched, band_cut, band_read}
+use Rattle.std.proofs.Common.{◌∙◌, take, refl, sym, ap}
+use Rattle.h5w_reader.specs.Values.{reading_with, valued}
+use Rattle.h5w_reader.proofs.ReadLemmas.{some_size, span_touched, band_cut, band_read, valued_goes}
 use Rattle.h5w_reader.proofs.values.Span.enter.Goals as goal
 
 pub returns-then-got-len : goal.returns-then-got-len
@@ -17,6 +17,7 @@ returns c =
     let b = c.args.bytes.now in
     let len = c.range-len.result.1 in
     let t = span_touched k s c.args.band c.requires.low c.requires.high in
-    c.of.ensures k
+    ap (valued k) c.from.ensures
+    ∙ valued_goes k c.in_ok-goes.goes
     ∙ c.in_ok-goes.ensures
     ∙ rw c.in_ok-put_cells.ensures (band_read r s.from s.to c.args.band c.args.place len c.args.values.items b (take len b) t (some_size s.dataset) c.range-len.ensures.len c.if-got-len.false refl)
