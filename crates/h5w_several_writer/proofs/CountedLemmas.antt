@@ -119,12 +119,10 @@ flushed_length S (Err e) root t us f same = length_same S.parts us same
 
 pub flushed_either : {T E : Type 0} (S : Sessions) (r : Result T E) (root : Super) (t : Space) (us : List Session) → AreCounted S → OnOk r (AreFlushed S.root S.places S.parts root t us) → OnOk r (AllSessions us) → OnOk r (root.version ≡ 3)
     → OnOk r (t.limit ≡ S.places.limit) → OnOk r (0 + length (all_pending us) + 1 < 2 ^ 64) → OnErr r (AreSameBut S.parts us) → OnErr r (root ≡ S.root) → OnErr r (t ≡ S.places)
-    → AreCounted (record S { root = root; places = t; parts = us }) × (t.limit ≡ S.places.limit)
-flushed_either S (Ok x) root t us k f are version limit few same root_is places_are = (counted_flushed S root t us k f are version limit (omega (arith, few)), limit)
-flushed_either S (Err e) root t us k f are version limit few same root_is places_are = (
-  subst AreCounted (λ i. record S { root = sym root_is i; places = sym places_are i; parts = us }) (counted_same S us k same),
-  ap (λ (v : Space). v.limit) places_are,
-)
+    → AreCounted (record S { root = root; places = t; parts = us })
+flushed_either S (Ok x) root t us k f are version limit few same root_is places_are = counted_flushed S root t us k f are version limit (omega (arith, few))
+flushed_either S (Err e) root t us k f are version limit few same root_is places_are =
+    subst AreCounted (λ i. record S { root = sym root_is i; places = sym places_are i; parts = us }) (counted_same S us k same)
 
 pub added_either : {T E : Type 0} (S : Sessions) (d : ℕ) (s u : Session) (values : List ℤ) (r : Result T E) → AreCounted S → slice_get S.parts d ≡ Some s → OnOk r (u ≡ with_values s values) → OnOk r (IsSession u) → OnErr r (u ≡ s)
     → AreCounted (record S { parts = slice_set S.parts d u })

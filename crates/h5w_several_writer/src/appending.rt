@@ -1,5 +1,5 @@
 //! Rows are appended to one of the datasets.
-ghost use Rattle.std.specs.Prelude.{◌≡◌, ◌⊎◌, ◌<◌, ◌≤◌, Some, Ok, Err, IfErr, IfOk, OnErr, OnOk, length, slice_get};
+ghost use Rattle.std.specs.Prelude.{◌≡◌, ◌⊎◌, ◌<◌, ◌≤◌, Some, Err, IfErr, IfOk, OnErr, OnOk, length, slice_get};
 ghost use Rattle.h5w_image.specs.View.{Same};
 ghost use Rattle.h5w_model.specs.Causes.{Rose};
 ghost use Rattle.h5w_model.specs.Several.{FileLog, appends_to};

@@ -147,7 +147,7 @@ impl SeveralWriter {
             alloc,
             self.root,
             self.places.end(),
-            self.limit,
+            self.places.limit(),
         ) {
             Ok(root) => {
                 self.root = root;

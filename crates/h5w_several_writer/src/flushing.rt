@@ -6,7 +6,6 @@ ghost use Rattle.h5w_model.specs.Causes.{Rose};
 ghost use Rattle.h5w_model.specs.Several.{FileLog, plans_each};
 ghost use Rattle.h5w_space.specs.declared.Full.{Full};
 ghost use Rattle.h5w_writer.specs.Refusals.{IsSpace};
-ghost use Rattle.h5w_writer.specs.Sessions.{Session};
 ghost use Rattle.h5w_writer.specs.declared.refusal.FlushError.{FlushError};
 ghost use Rattle.h5w_several_writer.specs.Flows.{PlansAll};
 ghost use Rattle.h5w_several_writer.specs.Refusals.{HasRoomForAll, IsDeepAmong, IsFullAmong, NoPlaceAll, flush_refusal_of};
@@ -208,7 +207,7 @@ impl SeveralWriter {
             alloc,
             from,
             0,
-            self.limit,
+            self.places.limit(),
             &mut self.root,
             &mut self.places,
             image,

@@ -1,6 +1,6 @@
 //! One part of a flush: it is planned over the superblock and the places that the parts before it leave, and carried
 //! out or given up.
-ghost use Rattle.std.specs.Prelude.{◌≡◌, ◌⊎◌, ◌+◌, ◌<◌, ◌≤◌, ◌^◌, [], length, IfErr, IfOk, OnErr, OnOk, Err};
+ghost use Rattle.std.specs.Prelude.{◌≡◌, ◌⊎◌, ◌+◌, ◌<◌, ◌≤◌, ◌^◌, [], length, IfErr, IfOk, OnErr, Err};
 ghost use Rattle.h5w_flush_laws.specs.Spaces.{extent_of};
 ghost use Rattle.h5w_model.specs.Findings.{the_superblock};
 ghost use Rattle.h5w_model.specs.declared.root.Super.{Super};
@@ -21,9 +21,6 @@ use h5w_space::Places;
 use h5w_writer::{FlushError, Planned, WriterCore};
 use std::alloc::Global;
 use std::mem;
-
-/// The bytes of a superblock.
-const SUPERBLOCK: u64 = 48;
 
 /// A part that is planned; the superblock and the places of the file behind it; and how many pieces it and the parts
 /// before it have at most.
@@ -147,7 +144,7 @@ pub fn begin_part(
     ensures causes { IfErr result (λ e. IsSpace e ⊎ ((e ≡ FlushError.Deep) ⊎ (e ≡ FlushError.OutOfMemory))) }
 {
     // nothing that a flush retires lies in the superblock, but that is not known here
-    if part.is_unmade() && !places.live(0, SUPERBLOCK) {
+    if part.is_unmade() && !places.live(0, h5w_super::LEN as u64) {
         return Err(FlushError::OutOfMemory);
     }
     lend(part, alloc, root, places);

@@ -22,8 +22,6 @@ pub struct SeveralWriter {
     /// The superblock and the places of the file once all planned pieces became visible.
     pub(crate) root: Super,
     pub(crate) places: Places,
-    /// How many bytes the file may have at most.
-    pub(crate) limit: u64,
     /// The datasets in order, each with this superblock, and with places that end where these do and in which nothing
     /// is free.
     pub(crate) parts: Vec<WriterCore>,
@@ -58,8 +56,7 @@ impl Model for SeveralWriter {
           parts = w.parts.items;
           stopped = w.stopped;
           keeps = w.keeps;
-        })
-        × (w.limit ≡ w.places.limit) };
+        }) };
 }
 
 /// A part has this superblock, and places that end there with nothing free or retired. Answers the places that it had.
@@ -137,7 +134,6 @@ impl SeveralWriter {
         SeveralWriter {
             root,
             places,
-            limit,
             parts,
             stopped: false,
             keeps: false,
@@ -162,7 +158,6 @@ impl SeveralWriter {
         SeveralWriter {
             root,
             places,
-            limit,
             parts,
             stopped: false,
             keeps: false,
@@ -223,7 +218,7 @@ impl SeveralWriter {
     pub fn limit(&self) -> u64
         ensures { result ≡ self.now.places.limit }
     {
-        self.limit
+        self.places.limit()
     }
 
     /// The most bytes of dataset `d` that may wait unwritten after an append.

@@ -3,7 +3,6 @@ ghost use Rattle.std.specs.Prelude.{◌≡◌, ◌≢◌, ◌⊎◌, ◌+◌, �
 ghost use Rattle.std.specs.Option.{option_copied};
 ghost use Rattle.h5w_model.specs.declared.piece.Write.{Write};
 ghost use Rattle.h5w_model.specs.Several.{FileLog, shows_all};
-ghost use Rattle.h5w_space.specs.Space.{Space};
 ghost use Rattle.h5w_writer.specs.Sessions.{Freed};
 ghost use Rattle.h5w_several_writer.specs.Flows.{KeepsParts};
 ghost use Rattle.h5w_several_writer_laws.specs.Sessions.{AfterPieceOf, AreFlushing, AreParts, AreSessions, AreShown, Sessions, all_pending};

@@ -1,5 +1,6 @@
 -- What the code of a flush shows, in its own words.
-use Rattle.std.proofs.Common.{◌≡◌, ℕ, ◌+◌, ◌*◌, ◌^◌, ◌<◌, ◌≤◌, true, List, [], ◌∷◌, ◌++◌, length, drop, Option, Some, None, IsSome, Result, Err, refl, ap, sym, ◌∙◌, subst, arith, inl, inr, length-append}
+use Rattle.std.proofs.Common.{◌≡◌, ℕ, ◌+◌, ◌-◌, ◌*◌, ◌^◌, ◌<◌, ◌≤◌, true, List, [], ◌∷◌, ◌++◌, length, drop, Option, Some, None, IsSome, Result, Err, refl, ap, sym, ◌∙◌, subst, arith, inl, inr, length-append}
+use Rattle.std.specs.List.{slice_get}
 use Rattle.std.proofs.lemmas.Bool.{cases_lt}
 use Rattle.std.proofs.lemmas.Nat.{mul-le}
 use Rattle.h5w_model.specs.Logs.{div_up}
@@ -11,7 +12,7 @@ use Rattle.h5w_model.specs.declared.root.Super.{Super}
 use Rattle.h5w_model.specs.declared.piece.Write.{Write}
 use Rattle.h5w_space.specs.Space.{Space}
 use Rattle.h5w_cache.specs.declared.moves.Move.{Move}
-use Rattle.h5w_chunks.specs.Grids.{IsCut, fill_cell}
+use Rattle.h5w_chunks.specs.Grids.{IsCut, chunk_len, fill_cell}
 use Rattle.h5w_chunks.specs.Rows.{RowsWritten}
 use Rattle.h5w_chunks.specs.Shares.{first_line, touched}
 use Rattle.h5w_chunks.specs.declared.grid.ChunkPlace.{ChunkPlace}
@@ -21,19 +22,20 @@ use Rattle.h5w_flush_laws.specs.Parts.{AreEnded}
 use Rattle.h5w_model.proofs.HeaderLemmas.{messages_at-ok}
 use Rattle.h5w_step_laws.proofs.CommitLaws.{rows_place_is, rows_there}
 use Rattle.h5w_step_laws.specs.Ranges as ranges
-use Rattle.h5w_index.specs.Views.{IndexView, TakesKey, address_in}
+use Rattle.h5w_index.specs.Views.{IndexView, IsSound, TakesKey, address_in}
 use Rattle.h5w_index.specs.Blocks.{has_no_block}
 use Rattle.h5w_index.specs.Steps.{IsPlan}
 use Rattle.h5w_index.specs.Told.{HeldTold}
 use Rattle.h5w_index.specs.Naming.{AreNamed, AreTakenBehind}
-use Rattle.h5w_index.specs.Placing.{IsPartly}
+use Rattle.h5w_index.specs.Placing.{AreInside, Fits, IsPartly}
 use Rattle.h5w_index.proofs.PlacingLemmas.{placing_laws}
 use Rattle.h5w_pieces.specs.Joined.{option_list}
 use Rattle.h5w_writer.specs.Backlogs.{IsPlanned}
 use Rattle.h5w_writer.specs.declared.backlog.Backlog.{Backlog}
 use Rattle.h5w_writer.proofs.BacklogLemmas.{pending_is}
-use Rattle.h5w_writer.specs.Sessions.{AllEndBy, ArePieces, IsRoomy, IsSession, IsUnmade, IsWhole, IsWritable, Session, bands_of, most_lines, next_row, rows_of, with_rows}
+use Rattle.h5w_writer.specs.Sessions.{AllEndBy, ArePieces, IsRoomy, IsSession, IsUnmade, IsWhole, IsWritable, Session, bands_of, most_lines, next_row, row_bytes, rows_of, with_rows}
 use Rattle.h5w_pieces.specs.NextPlaces.{next_places, writes_behind}
+use Rattle.h5w_writer.specs.ChunkPlaces.{AllEarly, CanPrepare}
 use Rattle.h5w_writer.specs.Flushes.{ArePlanned, IsFlushed, SameBut, flushed_of, header_piece}
 use Rattle.h5w_writer.proofs.HeaderAlone.{never, same_block}
 use Rattle.h5w_writer.proofs.FlushedLemmas.{chunks_few, fits_same, flushed_is, flushed_pieces, lines_few, shown_flushed, takes_keys}
@@ -76,6 +78,36 @@ values_few v is cut =
     let cells : (bands_of v * across) * (R * C) ≤ 1000000 * (R * C) = mul-le (bands_of v * across) (R * C) 1000000 (R * C) (chunks_few v is) (omega arith) in
     let bytes : (R * C) * 1 ≤ (R * C) * d.int_type.size = mul-le (R * C) 1 (R * C) d.int_type.size (omega arith) cut.some in
     omega (arith, all, same, cells, bytes, cut.small)
+
+-- So a flush of them can be prepared, over an index that takes their keys and from places at which they are: in the words of the code.
+pub can_prepare : (v : Session) → IsSession v → IsCut v.dataset → 0 < v.waits → (w : IndexView) (mid to : ℕ) (cells : List ℕ) (early : List ChunkPlace) (s : Space) → mid ≡ next_row v → to ≡ rows_of v → cells ≡ v.waiting → early ≡ v.chunks
+    → IsSound w → Fits v.dataset w → ((key : Key) → key.i < first_line v.dataset (div_up to v.dataset.layout.chunk_rows) → TakesKey w key) → AreInside v.dataset s.end w → s.end < 2 ^ 64 → s.limit ≤ 2 ^ 40
+    → AllEarly v.dataset (λ key. address_in w key) v.chunks → ((k : ℕ) (p : ChunkPlace) → slice_get v.chunks k ≡ Some p → p.address + chunk_len v.dataset ≤ s.end) → CanPrepare v.dataset w mid to cells early s
+can_prepare v is cut some w mid to cells early s mid_is to_is cells_are early_are sound fits takes inside small limit placed ends =
+    let d = v.dataset in
+    let low = is.early in
+    let less : to - d.shape.rows ≡ v.waits = omega (arith, to_is) in
+    let all : to - mid ≡ v.waits - v.early = omega (arith, to_is, mid_is) in
+    let regroup : (to - mid) * d.shape.cols * d.int_type.size ≡ (to - mid) * row_bytes d = grind arith in
+    record {
+      can = record {
+        order = omega (arith, to_is, some);
+        room = subst (λ (n : ℕ). n * d.shape.cols < 2 ^ 64) (sym less) (values_few v is cut);
+        few = (asks_for v to is to_is).lines;
+        sound = sound;
+        fits = fits;
+        takes = takes;
+        inside = inside;
+        small = small;
+        limit = limit;
+      };
+      first = omega (arith, mid_is);
+      last = omega (arith, mid_is, to_is, low);
+      count = ap length cells_are ∙ is.cells ∙ ap (λ (n : ℕ). n * row_bytes d) (sym all) ∙ sym regroup;
+      known = ap length early_are ∙ is.chunks ∙ ap (touched d d.shape.rows) (sym mid_is);
+      placed = subst (λ (ps : List ChunkPlace). AllEarly d (λ key. address_in w key) ps) (sym early_are) placed;
+      ends = subst (λ (ps : List ChunkPlace). (k : ℕ) (p : ChunkPlace) → slice_get ps k ≡ Some p → p.address + chunk_len d ≤ s.end) (sym early_are) ends;
+    }
 
 -- ---- What its calls make
 

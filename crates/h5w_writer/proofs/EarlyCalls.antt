@@ -20,6 +20,7 @@ use Rattle.h5w_flush_laws.specs.EarlyRows.{IsEarlyPlace}
 use Rattle.h5w_index.specs.Naming.{AreTakenBehind}
 use Rattle.h5w_index.specs.Views.{TakesKey, address_in}
 use Rattle.h5w_pieces.specs.NextPlaces.{next_places, writes_behind}
+use Rattle.h5w_writer.specs.ChunkPlaces.{AreBandsPlaced, AreEarlyWrites, CanPlace}
 use Rattle.h5w_writer.specs.Early.{HasNoBandPlace, IsBandFull, IsEarlyRow, IsWithin, WritesEarly, unwritten}
 use Rattle.h5w_writer.specs.Sessions.{IsSession, Session, bands_of, most_lines, next_row, row_bytes, rows_of}
 use Rattle.h5w_writer.proofs.CarriedLemmas.{values_few}
@@ -52,21 +53,34 @@ module _ (v : Session) (is : IsSession v) (cut : IsCut v.dataset) where
     lines : first_line d (div_up to d.layout.chunk_rows) ≤ first_line d (bands_of v)
     lines = lines_more d (div_up to d.layout.chunk_rows) (bands_of v) bands
 
-    pub early_room : (to - d.shape.rows) * d.shape.cols < 2 ^ 64
+    early_room : (to - d.shape.rows) * d.shape.cols < 2 ^ 64
     early_room =
         let bound = row.bound in
         let some = row.some in
         let few : (to - d.shape.rows) * d.shape.cols ≤ v.waits * d.shape.cols = mul-le-mul_right d.shape.cols (let less : to - d.shape.rows ≤ v.waits = omega (arith, bound) in less) in
         omega (arith, few, values_few v is cut)
 
-    pub early_lines : first_line d (div_up to d.layout.chunk_rows) ≤ most_lines d
+    early_lines : first_line d (div_up to d.layout.chunk_rows) ≤ most_lines d
     early_lines = omega (arith, lines, lines_few v is)
 
     pub early_chunks : div_up to d.layout.chunk_rows * chunks_across d ≤ 1000000
     early_chunks = let few = mul-le-mul_right (chunks_across d) bands in omega (arith, few, chunks_few v is)
 
-    pub early_takes : (key : Key) → key.i < first_line d (div_up to d.layout.chunk_rows) → TakesKey v.index key
+    early_takes : (key : Key) → key.i < first_line d (div_up to d.layout.chunk_rows) → TakesKey v.index key
     early_takes key low = takes_keys v is key (omega (arith, low, lines))
+
+    pub early_can : CanPlace d v.index to v.places
+    early_can = record {
+      order = let some = row.some in omega (arith, some);
+      room = early_room;
+      few = early_lines;
+      sound = is.sound;
+      fits = is.fits;
+      takes = early_takes;
+      inside = is.inside;
+      small = is.small;
+      limit = is.limit;
+    }
 
     early_count : (to - next_row v) * row_bytes d ≤ length v.waiting
     early_count =
@@ -131,19 +145,6 @@ module _ (v : Session) (is : IsSession v) (cut : IsCut v.dataset) where
 
 -- ---- The session that it leaves
 
--- what a plan made of the rows from `mid` on, whose cells these are, up to row `at`
-pub record IsPlanned (v : Session) (to at : ℕ) (chunks : List ChunkPlace) (places : Space) (writes : List Write) (rest : List ℕ) (mid : ℕ) (cells : List ℕ) : Type 0 where
-  pub rises : mid < at
-  pub bound : at ≤ to
-  pub whole : (at ≡ mid) ⊎ ((at ≡ to) ⊎ (at % v.dataset.layout.chunk_rows ≡ 0))
-  pub taken : AreTakenBehind v.dataset (λ key. address_in v.index key) v.chunks v.places chunks places
-  pub all : length chunks ≡ touched v.dataset v.dataset.shape.rows at
-  pub placed : (k : ℕ) (p : ChunkPlace) → slice_get chunks k ≡ Some p → IsEarlyPlace v.dataset (λ key. address_in v.index key) v.dataset.shape.rows k p
-  pub exact : writes ≡ writes_behind v.dataset (take ((at - mid) * row_bytes v.dataset) cells) v.dataset.shape.rows mid at chunks
-  pub written : RowsWritten v.dataset (take ((at - mid) * row_bytes v.dataset) cells) mid at (next_places v.dataset v.dataset.shape.rows mid chunks) writes
-  pub rest_is : rest ≡ drop ((at - mid) * row_bytes v.dataset) cells
-  pub some : writes ≢ []
-
 abbrev pub early_session : (v : Session) (at : ℕ) (chunks : List ChunkPlace) (places : Space) (writes : List Write) (rest : List ℕ) → Session
 early_session v at chunks places writes rest = record v { early = at - v.dataset.shape.rows; waiting = rest; chunks = chunks; places = places; pending = writes }
 
@@ -152,24 +153,27 @@ planned_whole v to at row rises (inl same) = absurd (omega (arith, rises, same))
 planned_whole v to at row rises (inr (inl same)) = subst (λ (n : ℕ). (n ≡ rows_of v) ⊎ (n % v.dataset.layout.chunk_rows ≡ 0)) (sym same) row.whole
 planned_whole v to at row rises (inr (inr whole)) = inr whole
 
-pub writes_early : (v : Session) (to at : ℕ) (chunks : List ChunkPlace) (places : Space) (writes : List Write) (rest : List ℕ) → IsEarlyRow v to → (mid : ℕ) (cells : List ℕ) → mid ≡ next_row v → cells ≡ v.waiting
-    → IsPlanned v to at chunks places writes rest mid cells → WritesEarly v (early_session v at chunks places writes rest)
-writes_early v to at chunks places writes rest row mid cells mid_is cells_are planned =
-    let p : IsPlanned v to at chunks places writes rest (next_row v) v.waiting =
-    subst (λ (bs : List ℕ). IsPlanned v to at chunks places writes rest (next_row v) bs) cells_are (subst (λ (n : ℕ). IsPlanned v to at chunks places writes rest n cells) mid_is planned) in
+-- in the words of the code: of the rows from `mid` on, whose cells these are
+pub writes_early : (v : Session) (to at n : ℕ) (chunks : List ChunkPlace) (places : Space) (writes : List Write) (rest : List ℕ) (mid : ℕ) (cells : List ℕ) → IsSession v → IsEarlyRow v to → mid ≡ next_row v → cells ≡ v.waiting → mid < at
+    → rest ≡ drop n v.waiting → AreBandsPlaced v.dataset (λ key. address_in v.index key) mid to v.chunks v.places at chunks places → AreEarlyWrites v.dataset cells mid at chunks places.end n writes → WritesEarly v (early_session v at chunks places writes rest)
+writes_early v to at n chunks places writes rest mid cells is row mid_is cells_are rises rest_is placed planned =
+    let x : AreBandsPlaced v.dataset (λ key. address_in v.index key) (next_row v) to v.chunks v.places at chunks places = subst (λ (m : ℕ). AreBandsPlaced v.dataset (λ key. address_in v.index key) m to v.chunks v.places at chunks places) mid_is placed in
+    let p : AreEarlyWrites v.dataset v.waiting (next_row v) at chunks places.end n writes =
+    subst (λ (bs : List ℕ). AreEarlyWrites v.dataset bs (next_row v) at chunks places.end n writes) cells_are (subst (λ (m : ℕ). AreEarlyWrites v.dataset cells m at chunks places.end n writes) mid_is planned) in
+    let some : next_row v < at = subst (λ (m : ℕ). m < at) mid_is rises in
     let new = take ((at - next_row v) * row_bytes v.dataset) v.waiting in
     record {
       to = at;
-      some = p.rises;
-      bound = let bound = row.bound in let up = p.bound in omega (arith, bound, up);
-      whole = planned_whole v to at row p.rises p.whole;
-      taken = p.taken;
-      all = p.all;
-      placed = p.placed;
-      exact = p.exact ∙ cond-true (nat_lt (next_row v) at) (new_writes v.dataset new (next_row v) at (next_places v.dataset v.dataset.shape.rows (next_row v) chunks)) [] (lt-ltb (next_row v) at p.rises);
-      written = p.written;
-      pieces = p.some;
-      session = ap (λ (bs : List ℕ). early_session v at chunks places writes bs) p.rest_is;
+      some = some;
+      bound = let bound = row.bound in let up = x.high in omega (arith, bound, up);
+      whole = planned_whole v to at row some x.whole;
+      taken = x.taken;
+      all = x.all;
+      placed = x.placed is.placed;
+      exact = p.exact ∙ cond-true (nat_lt (next_row v) at) (new_writes v.dataset new (next_row v) at (next_places v.dataset v.dataset.shape.rows (next_row v) chunks)) [] (lt-ltb (next_row v) at some);
+      written = p.does some;
+      pieces = p.some some;
+      session = ap (λ (bs : List ℕ). early_session v at chunks places writes bs) (rest_is ∙ ap (λ (k : ℕ). drop k v.waiting) p.bytes);
     }
 
 -- what waits then is within the budget, or has no place

@@ -35,7 +35,7 @@ use Rattle.h5w_writer.specs.declared.backlog.Backlog.{Backlog}
 use Rattle.h5w_writer.specs.declared.planned.Prepared.{Prepared}
 use Rattle.h5w_writer.specs.declared.planned.Growing.{Growing}
 use Rattle.h5w_writer.specs.declared.planned.Starting.{Starting}
-use Rattle.h5w_writer.specs.Halves.{IsReady, PlansAlone, PlansGrowth, PlansStart, grown_of}
+use Rattle.h5w_writer.specs.Halves.{IsReady, PlansAlone, PlansGrowth, PlansStart, ShowsPrepared, grown_of}
 use Rattle.h5w_writer.specs.Sessions.{AllEndBy, ArePieces, IsRoomy, IsSession, IsUnmade, IsWhole, Session, chunk_limit, next_row, rows_of, with_rows}
 use Rattle.h5w_writer.specs.Flushes.{IsFlushed, IsPrepared, SameBut}
 use Rattle.h5w_writer.specs.Lent.{IsFurther}
@@ -67,20 +67,11 @@ begun_further (a_tree p v) s (Array b) t is x = absurd x
 
 -- ---- What the first half shows
 
--- in the words of the code: up to row `to`, from row `mid` on, with the cells, the places and the early chunks that it has
-pub record Shown (s : Session) (v : IndexView) (mid to : ℕ) (cells : List ℕ) (early : List ChunkPlace) (places : Space) (p : Prepared) (chunks : List ChunkPlace) (added : List Key) (named : IndexView) (t : Space) : Type 0 where
-  pub prepared : IsPrepared s.dataset to v early places chunks added named p.begun t
-  pub all : length chunks ≡ touched s.dataset s.dataset.shape.rows to
-  pub exact : p.writes.items ≡ writes_behind s.dataset cells s.dataset.shape.rows mid to chunks
-  pub written : mid < to → RowsWritten s.dataset cells mid to (next_places s.dataset s.dataset.shape.rows mid chunks) p.writes.items
-  pub roomy : IsRoomy s.dataset v → IsRoomy s.dataset named
-  pub after : p.after ≡ copy_pieces p.begun + in_place_pieces p.begun + 2
-  pub room : vec_len p.writes + p.after ≤ vec_capacity p.writes
-  pub end : p.end ≡ t.end
-
+-- in the words of the code
 pub ready_of : (s : Session) (v : IndexView) (before : Space) (mid to : ℕ) (cells : List ℕ) (early : List ChunkPlace) (places : Space) (p : Prepared) (chunks : List ChunkPlace) (added : List Key) (named : IndexView) (t : Space)
-    → mid ≡ next_row s → to ≡ rows_of s → cells ≡ s.waiting → early ≡ s.chunks → places ≡ before → Shown s v mid to cells early places p chunks added named t → IsReady s v before p added named t
-ready_of s v before mid to cells early places p chunks added named t mid_is to_is cells_are early_are places_are x =
+    → mid ≡ next_row s → to ≡ rows_of s → cells ≡ s.waiting → early ≡ s.chunks → places ≡ before
+    → (IsRoomy s.dataset v → IsRoomy s.dataset named) → ShowsPrepared s.dataset v mid to cells early places p chunks added named t → IsReady s v before p added named t
+ready_of s v before mid to cells early places p chunks added named t mid_is to_is cells_are early_are places_are roomy x =
     let d = s.dataset in
     let from = d.shape.rows in
     let rows = rows_of s in
@@ -99,7 +90,7 @@ ready_of s v before mid to cells early places p chunks added named t mid_is to_i
           subst (λ (c : List ℕ). next_row s < rows → RowsWritten d c (next_row s) rows (next_places d from (next_row s) chunks) p.writes.items) cells_are
           (subst (λ (n : ℕ). n < rows → RowsWritten d cells n rows (next_places d from n chunks) p.writes.items) mid_is
           (subst (λ (n : ℕ). mid < n → RowsWritten d cells mid n (next_places d from mid chunks) p.writes.items) to_is x.written));
-      roomy = x.roomy;
+      roomy = roomy;
       after = x.after;
       room = x.room;
       end = x.end;

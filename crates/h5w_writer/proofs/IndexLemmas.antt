@@ -17,7 +17,7 @@ use Rattle.h5w_index.specs.Flushes.{Rests}
 use Rattle.h5w_index.proofs.FlushLemmas.{rests_forgotten, rests_freed}
 use Rattle.h5w_index.proofs.BeginLemmas.{rests_missed}
 use Rattle.h5w_writer.specs.Sessions.{Freed, IsNamed}
-use Rattle.h5w_block_laws.proofs.AloneLemmas.{alone_missed}
+use Rattle.h5w_first_flush_laws.proofs.AloneLemmas.{alone_missed}
 use Rattle.h5w_index.specs.Blocks.{has_no_block}
 use Rattle.h5w_writer.specs.Indexes.{IsKeptIndex, IsStarting, Lacks, an_index, a_block}
 use Rattle.h5w_writer.proofs.HeaderAlone.{never, rests_whole}

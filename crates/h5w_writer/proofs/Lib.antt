@@ -18,6 +18,8 @@ mod FindingLemmas
 mod ValueLemmas
 mod EarlyBytes
 mod EarlyRowLemmas
+mod ExitLemmas
+mod RefusalLemmas
 mod PlaceLemmas
 mod AloneLemmas
 mod IndexStarts

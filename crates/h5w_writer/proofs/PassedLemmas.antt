@@ -25,7 +25,7 @@ use Rattle.h5w_flush_laws.proofs.EarlyLemmas.{header_kept}
 use Rattle.h5w_array_laws.specs.ArrayImages.{StandsArray}
 use Rattle.h5w_array_laws.proofs.StandLemmas.{array_stays}
 use Rattle.h5w_array_flush_laws.proofs.ArrayFlushLemmas.{placed_range}
-use Rattle.h5w_block_laws.proofs.AloneLemmas.{alone_missed}
+use Rattle.h5w_first_flush_laws.proofs.AloneLemmas.{alone_missed}
 use Rattle.h5w_bt_index.specs.Index.{Index}
 use Rattle.h5w_bt_nodes.specs.Blocks.{place_of as node_place}
 use Rattle.h5w_tree_index_laws.specs.TreeImages.{behind_of as nodes_behind, node_range}

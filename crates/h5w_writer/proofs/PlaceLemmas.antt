@@ -1,5 +1,5 @@
 -- Chunks of rows that are written early get their places.
-use Rattle.std.proofs.Common.{◌≡◌, ◌≢◌, ◌⊎◌, ℕ, ◌+◌, ◌-◌, ◌*◌, ◌/◌, ◌%◌, ◌<◌, ◌≤◌, max, false, true, List, [], ◌∷◌, ◌++◌, length, take, Some, inl, inr, refl, sym, ap, ◌∙◌, subst, arith}
+use Rattle.std.proofs.Common.{◌≡◌, ◌≢◌, ◌⊎◌, ℕ, ◌+◌, ◌-◌, ◌*◌, ◌/◌, ◌%◌, ◌^◌, ◌<◌, ◌≤◌, max, false, true, List, [], ◌∷◌, ◌++◌, length, take, Some, inl, inr, refl, sym, ap, ◌∙◌, subst, arith}
 use Rattle.std.proofs.lemmas.Bool.{cases_lt}
 use Rattle.std.proofs.lemmas.List.{length-take, take-take}
 use Rattle.std.proofs.lemmas.Nat.{div-add-mod', mul-le}
@@ -25,6 +25,7 @@ use Rattle.h5w_index.specs.Views.{IndexView, address_in}
 use Rattle.h5w_index.proofs.BehindLemmas.{behind_laws}
 use Rattle.h5w_index.proofs.PartlyLemmas.{get_pushed}
 use Rattle.h5w_writer.specs.Early.{IsBandFull, IsPlaceFull}
+use Rattle.h5w_writer.specs.ChunkPlaces.{AllEarly, CanPlace, IsGrown}
 use Rattle.h5w_chunks.proofs.Geometry.{is_cut, lt_up, up_lt}
 use Rattle.h5w_chunks.proofs.KeyLemmas.{touched_low}
 use Rattle.h5w_flush_laws.proofs.NewChunkLemmas.{touched_is}
@@ -75,10 +76,6 @@ next_full d v s chunks key full number none refused = record {
 
 -- ---- A band
 
--- each of these chunks has its place, by this map of the chunks that have an address
-abbrev pub AllEarly : Described → (Key → ℕ) → List ChunkPlace → Type 0
-AllEarly d old chunks = (k : ℕ) (p : ChunkPlace) → slice_get chunks k ≡ Some p → IsEarlyPlace d old d.shape.rows k p
-
 pub early_pushed : (d : Described) (old : Key → ℕ) (chunks : List ChunkPlace) (p : ChunkPlace) → IsEarlyPlace d old d.shape.rows (length chunks) p → AllEarly d old chunks → AllEarly d old (chunks ++ p ∷ [])
 early_pushed d old chunks p here before k q at =
     elim (get_pushed chunks p k q at) [
@@ -97,6 +94,33 @@ kept_on early before now first next =
 
 pub inside_on : (d : Described) (s t : Space) (v : IndexView) → s.end ≤ t.end → AreInside d s.end v → AreInside d t.end v
 inside_on d s t v rises within key low known = omega (arith, rises, within key low known)
+
+pub nothing_taken : (d : Described) (old : Key → ℕ) (chunks : List ChunkPlace) (s : Space) → AreTakenBehind d old chunks s chunks s
+nothing_taken d old chunks s = behind_laws.behind_none d old chunks s s (record { end = refl; free = refl; retired = refl; limit = refl })
+
+pub grown_none : (s : Space) → s.end < 2 ^ 64 → IsGrown s s
+grown_none s small = record { rises = omega arith; small = small; limit = refl }
+
+pub grown_on : (s t u : Space) → IsGrown s t → IsGrown t u → IsGrown s u
+grown_on s t u first next = record {
+  rises = let a = first.rises in let b = next.rises in omega (arith, a, b);
+  small = next.small;
+  limit = next.limit ∙ first.limit;
+}
+
+-- from there on chunks can get places too
+pub can_on : (d : Described) (v : IndexView) (to : ℕ) (s t : Space) → IsGrown s t → CanPlace d v to s → CanPlace d v to t
+can_on d v to s t grown can = record {
+  order = can.order;
+  room = can.room;
+  few = can.few;
+  sound = can.sound;
+  fits = can.fits;
+  takes = can.takes;
+  inside = inside_on d s t v grown.rises can.inside;
+  small = grown.small;
+  limit = let same = grown.limit in let low = can.limit in omega (arith, same, low);
+}
 
 -- ---- Bands
 

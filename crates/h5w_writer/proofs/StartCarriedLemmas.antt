@@ -21,7 +21,7 @@ use Rattle.h5w_step_laws.specs.Files.{with_index}
 use Rattle.h5w_flush_laws.specs.EarlyRows.{IsEarlyPlace}
 use Rattle.h5w_flush_laws.specs.Parts.{AreEnded}
 use Rattle.h5w_index.specs.Blocks.{has_no_block}
-use Rattle.h5w_index.specs.Views.{IndexView, TakesKey, address_in, an_array, a_tree, kind_of}
+use Rattle.h5w_index.specs.Views.{IndexView, IsSound, TakesKey, address_in, an_array, a_tree, kind_of}
 use Rattle.h5w_index.specs.Steps.{IsPlan}
 use Rattle.h5w_index.specs.Full.{IsFullPart}
 use Rattle.h5w_index.specs.Naming.{AreNamed, AreTakenBehind}
@@ -42,9 +42,11 @@ use Rattle.h5w_writer.proofs.StartingLemmas.{made_fits, made_inside, made_takes,
 
 -- of the index that is made at places, up to row `to`
 pub record AsksOfMade (v : Session) (to : ℕ) (made : IndexView) (first : Space) : Type 0 where
+  pub sound : IsSound made
   pub fits : Fits v.dataset made
   pub takes : (key : Key) → key.i < first_line v.dataset (div_up to v.dataset.layout.chunk_rows) → TakesKey made key
   pub inside : AreInside v.dataset first.end made
+  pub small : first.end < 2 ^ 64
   pub limit : first.limit ≤ 2 ^ 40
   -- the chunks that were written early are new ones: the index names none, as that which is not there did not
   pub placed : (k : ℕ) (p : ChunkPlace) → slice_get v.chunks k ≡ Some p → IsEarlyPlace v.dataset (λ key. address_in made key) v.dataset.shape.rows k p
@@ -53,9 +55,14 @@ pub record AsksOfMade (v : Session) (to : ℕ) (made : IndexView) (first : Space
 pub asks_of_made : (v : Session) (to : ℕ) (places : Space) (at : ℕ) (made : IndexView) (first : Space) → IsSession v → IsUnmade v → to ≡ rows_of v → places ≡ v.places → v.dataset.layout.index ≡ kind_of made
     → IsStartedAt v.dataset.layout.address places at made first → AsksOfMade v to made first
 asks_of_made v to places at made first is unmade e places_are kind start = record {
+  sound = start.sound;
   fits = made_fits v is made kind;
   takes = subst (λ (n : ℕ). (key : Key) → key.i < first_line v.dataset (div_up n v.dataset.layout.chunk_rows) → TakesKey made key) (sym e) (made_takes v is made kind);
   inside = made_inside v.dataset first.end v.dataset.layout.address places at made first start;
+  small =
+      let end : places.end ≡ v.places.end = ap (λ (s : Space). s.end) places_are in
+      let most : places.limit ≡ v.places.limit = ap (λ (s : Space). s.limit) places_are in
+      omega (arith, end, most, start.raised.fits, start.raised.limit, is.small, is.limit);
   limit = subst (λ (n : ℕ). n ≤ 2 ^ 40) (sym (start.raised.limit ∙ ap (λ (s : Space). s.limit) places_are)) is.limit;
   placed = λ k p here.
       let place = is.placed k p here in

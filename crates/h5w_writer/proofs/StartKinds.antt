@@ -42,10 +42,10 @@ use Rattle.h5w_first_flush_laws.specs.FirstFlushes.{RisesTo, no_chunk}
 use Rattle.h5w_first_flush_laws.specs.Starting.{StartKnows}
 use Rattle.h5w_first_flush_laws.specs.StartCalls.{ArePending, AreStartCalls, IsMade, NamesChunks}
 use Rattle.h5w_first_flush_laws.specs.StartFlushes as starts_parts
-use Rattle.h5w_block_laws.specs.HeaderAlone.{IsHeaderAlone}
-use Rattle.h5w_block_laws.specs.BlockFlushes.{new_block, top_piece}
-use Rattle.h5w_block_laws.specs.BlockCalls.{AreBlockCalls, AreOrdered}
-use Rattle.h5w_block_laws.proofs.BlockCallLemmas.{block_pending}
+use Rattle.h5w_first_flush_laws.specs.HeaderAlone.{IsHeaderAlone}
+use Rattle.h5w_first_flush_laws.specs.BlockFlushes.{new_block, top_piece}
+use Rattle.h5w_first_flush_laws.specs.BlockCalls.{AreBlockCalls, AreOrdered}
+use Rattle.h5w_first_flush_laws.proofs.BlockCallLemmas.{block_pending}
 use Rattle.h5w_first_flush_laws.proofs.StartLemmas.{blank_map, created_blank}
 use Rattle.h5w_first_flush_laws.proofs.StartPieceLemmas.{named_changed}
 use Rattle.h5w_first_flush_laws.proofs.StartCallLemmas.{start_pending, two_taken}

@@ -22,10 +22,10 @@ use Rattle.h5w_first_flush_laws.specs.Starting.{StartKnows}
 use Rattle.h5w_first_flush_laws.specs.StartFlushes as starts_parts
 use Rattle.h5w_first_flush_laws.proofs.StartCallLemmas.{start_calls}
 use Rattle.h5w_first_flush_laws.proofs.StartFlushLemmas.{start_first}
-use Rattle.h5w_block_laws.specs.BlockFlushes.{block_parts_for}
-use Rattle.h5w_block_laws.specs.HeaderAlone.{AloneKnows}
-use Rattle.h5w_block_laws.proofs.BlockCallLemmas.{block_calls}
-use Rattle.h5w_block_laws.proofs.BlockFlushLemmas.{block_first}
+use Rattle.h5w_first_flush_laws.specs.BlockFlushes.{block_parts_for}
+use Rattle.h5w_first_flush_laws.specs.HeaderAlone.{AloneKnows}
+use Rattle.h5w_first_flush_laws.proofs.BlockCallLemmas.{block_calls}
+use Rattle.h5w_first_flush_laws.proofs.BlockFlushLemmas.{block_first}
 use Rattle.h5w_bt_index.specs.Index.{Index, no_tree}
 use Rattle.h5w_index.specs.Views.{IndexView, an_array, a_tree, address_in, behind_of}
 use Rattle.h5w_tree_starting_laws.specs.TreeStarting as tree_starts

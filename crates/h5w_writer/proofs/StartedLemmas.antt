@@ -44,7 +44,7 @@ use Rattle.h5w_writer.specs.Stands.{Running}
 use Rattle.h5w_pieces.specs.Joined.{AreJoined, IsNaming}
 use Rattle.h5w_flush_laws.specs.Chunks.{chunks_for}
 use Rattle.h5w_writer.specs.Starts.{IsMadeAt, IsStartFlushed, StartRunning, naming_piece, started_of}
-use Rattle.h5w_block_laws.specs.HeaderAlone.{IsHeaderAlone}
+use Rattle.h5w_first_flush_laws.specs.HeaderAlone.{IsHeaderAlone}
 use Rattle.h5w_writer.specs.Indexes.{Lacks, an_index, a_block}
 use Rattle.h5w_writer.proofs.CreatingLemmas.{no_cells}
 use Rattle.h5w_writer.proofs.HeaderAlone.{named_at}

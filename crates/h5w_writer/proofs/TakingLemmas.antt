@@ -281,9 +281,6 @@ early_next d to k n v early key chunks cut known places is low count is_key =
       pushed = ap (λ (cs : List ChunkPlace). cs ++ p ∷ []) is ∙ sym (take-suc early k (record { address = 0; stored = false }) low) ∙ ap (λ (j : ℕ). take j early) (let e : suc k ≡ k + 1 = omega arith in e);
     }
 
-pub same_error : {T E : Type 0} (e f : E) → ◌≡◌ {A = Result T E} (Err e) (Err f) → e ≡ f
-same_error {T} {E} e f is = cc
-
 -- what a plan says of a block without a place, where a flush tells it
 pub full_of : {T : Type 0} (e : PlanError) (full : Full) (P : Full → Type 0) → ◌≡◌ {A = Result T FlushError} (Err (plan_fault e)) (Err (flushes.Space full)) → IfFull e P → P full
 full_of (plan.Full f) full P is told = let same : f ≡ full = cc in subst P same told

@@ -1,11 +1,12 @@
 -- A flush in two halves: what the first, which may be refused, hands to the second, which may not.
 use Rattle.std.specs.Prelude.{◌≡◌, ℕ, ◌+◌, ◌<◌, ◌≤◌, List, [], ◌∷◌, length, vec_len, vec_capacity}
 use Rattle.std.specs.Global.{Vec}
+use Rattle.h5w_model.specs.Datasets.{Described}
 use Rattle.h5w_model.specs.declared.cell.Key.{Key}
 use Rattle.h5w_model.specs.declared.piece.Write.{Write}
 use Rattle.h5w_space.specs.Space.{Space}
 use Rattle.h5w_chunks.specs.Rows.{RowsWritten}
-use Rattle.h5w_chunks.specs.Shares.{new_writes}
+use Rattle.h5w_chunks.specs.Shares.{new_writes, touched}
 use Rattle.h5w_chunks.specs.declared.grid.ChunkPlace.{ChunkPlace}
 use Rattle.h5w_index.specs.Held.{view_of}
 use Rattle.h5w_index.specs.Views.{IndexView, kind_of}
@@ -37,6 +38,18 @@ pub record PlansAlone (s : Session) (ws : Vec Write) : Type 0 where
   pub exact : ws.items ≡ new_writes s.dataset s.waiting s.dataset.shape.rows (rows_of s) (place ∷ [])
   pub written : RowsWritten s.dataset s.waiting s.dataset.shape.rows (rows_of s) (place ∷ []) ws.items
   pub room : vec_len ws + 2 ≤ vec_capacity ws
+
+-- What was prepared of a flush up to row `to`, of whose rows those from row `mid` on have these cells, those before it these places already:
+-- over an index and places all chunks have theirs, the plan of the index that names them is begun, and these are the writes of the rows, with
+-- room for all that follows.
+pub record ShowsPrepared (d : Described) (v : IndexView) (mid to : ℕ) (cells : List ℕ) (early : List ChunkPlace) (places : Space) (p : Prepared) (chunks : List ChunkPlace) (added : List Key) (named : IndexView) (t : Space) : Type 0 where
+  pub prepared : IsPrepared d to v early places chunks added named p.begun t
+  pub all : length chunks ≡ touched d d.shape.rows to
+  pub exact : p.writes.items ≡ writes_behind d cells d.shape.rows mid to chunks
+  pub written : mid < to → RowsWritten d cells mid to (next_places d d.shape.rows mid chunks) p.writes.items
+  pub after : p.after ≡ copy_pieces p.begun + in_place_pieces p.begun + 2
+  pub room : vec_len p.writes + p.after ≤ vec_capacity p.writes
+  pub end : p.end ≡ t.end
 
 -- The chunks of the rows that wait have their places, over an index and places; the plan of the index that names them is begun; and these are
 -- the writes of the rows, with room for all that follows. The file ends there then.

@@ -6,7 +6,7 @@ use Rattle.h5w_model.specs.declared.cell.Key.{Key}
 use Rattle.h5w_space.specs.Space.{Space}
 use Rattle.h5w_step_laws.specs.Moments.{Moment}
 use Rattle.h5w_first_flush_laws.specs.Starting as arrays
-use Rattle.h5w_block_laws.specs.HeaderAlone.{IsHeaderAlone}
+use Rattle.h5w_first_flush_laws.specs.HeaderAlone.{IsHeaderAlone}
 use Rattle.h5w_bt_index.specs.Index.{no_tree}
 use Rattle.h5w_index.specs.Views.{IndexView, an_array, a_tree, IsSound, address_in, kind_of}
 use Rattle.h5w_index.specs.Flushes.{Rests}

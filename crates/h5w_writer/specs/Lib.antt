@@ -15,6 +15,7 @@ pub mod Sessions
 pub mod Backlogs
 pub mod Codes
 pub mod Early
+pub mod ChunkPlaces
 pub mod Creations
 pub mod Refusals
 pub mod Indexes

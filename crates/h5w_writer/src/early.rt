@@ -17,6 +17,7 @@ ghost use Rattle.h5w_index.specs.Naming.{AreTakenBehind};
 ghost use Rattle.h5w_index.specs.Placing.{AreInside, Fits};
 ghost use Rattle.h5w_index.specs.Views.{IsSound, TakesKey, address_in};
 ghost use Rattle.h5w_pieces.specs.NextPlaces.{next_places, writes_behind};
+ghost use Rattle.h5w_writer.specs.ChunkPlaces.{AreBandsPlaced, AreEarlyWrites, CanPlace, IsBandPlaced, IsGrown};
 ghost use Rattle.h5w_writer.specs.Early.{IsBandFull, IsEarlyRow, IsPlaceFull, IsWithin, WrittenEarly, band_bytes, dirty_of, unwritten};
 ghost use Rattle.h5w_writer.specs.Room.{HasRoomFor};
 ghost use Rattle.h5w_writer.specs.Sessions.{AllEndBy, ArePieces, most_lines, next_row, row_bytes};
@@ -69,19 +70,11 @@ fn next_place(
     chunks: &[ChunkPlace],
 ) -> Option<ChunkPlace>
     requires grid { IsGrid grid.now }
-    requires order { grid.now.shape.rows < to }
-    requires room { (to - grid.now.shape.rows) * grid.now.shape.cols < 2 ^ 64 }
-    requires few { first_line (dataset_of grid.now) (div_up to grid.now.layout.chunk.0) ≤ most_lines (dataset_of grid.now) }
-    requires sound { IsSound (view_of index.now) }
-    requires fits { Fits (dataset_of grid.now) (view_of index.now) }
-    requires takes { (key : Key) → key.i < first_line (dataset_of grid.now) (div_up to grid.now.layout.chunk.0) → TakesKey (view_of index.now) key }
-    requires inside { AreInside (dataset_of grid.now) places.old.end (view_of index.now) }
-    requires small { places.old.end < 2 ^ 64 }
-    requires limit { places.old.limit ≤ 2 ^ 40 }
+    requires can { CanPlace (dataset_of grid.now) (view_of index.now) to places.old }
     requires behind { length chunks.now < touched (dataset_of grid.now) grid.now.shape.rows to }
     ensures taken { IfSome result (λ p. AreTakenBehind (dataset_of grid.now) (λ key. address_in (view_of index.now) key) chunks.now places.old (chunks.now ++ p ∷ []) places.new) }
     ensures placed { IfSome result (λ p. IsEarlyPlace (dataset_of grid.now) (λ key. address_in (view_of index.now) key) grid.now.shape.rows (length chunks.now) p) }
-    ensures kept { IfSome result (λ p. (places.old.end ≤ places.new.end) × (places.new.end < 2 ^ 64) × (places.new.limit ≡ places.old.limit)) }
+    ensures grown { IfSome result (λ p. IsGrown places.old places.new) }
     ensures full { IfNone result (IsPlaceFull (dataset_of grid.now) (λ key. address_in (view_of index.now) key) chunks.now places.old) }
     ensures same { IfNone result (places.new ≡ places.old) }
 {
@@ -110,22 +103,9 @@ fn place_band(
     chunks: &mut Vec<ChunkPlace>,
 ) -> Result<bool, OutOfMemory>
     requires grid { IsGrid grid.now }
-    requires order { grid.now.shape.rows < to }
-    requires room { (to - grid.now.shape.rows) * grid.now.shape.cols < 2 ^ 64 }
-    requires few { first_line (dataset_of grid.now) (div_up to grid.now.layout.chunk.0) ≤ most_lines (dataset_of grid.now) }
-    requires sound { IsSound (view_of index.now) }
-    requires fits { Fits (dataset_of grid.now) (view_of index.now) }
-    requires takes { (key : Key) → key.i < first_line (dataset_of grid.now) (div_up to grid.now.layout.chunk.0) → TakesKey (view_of index.now) key }
-    requires inside { AreInside (dataset_of grid.now) places.old.end (view_of index.now) }
-    requires small { places.old.end < 2 ^ 64 }
-    requires limit { places.old.limit ≤ 2 ^ 40 }
+    requires can { CanPlace (dataset_of grid.now) (view_of index.now) to places.old }
     requires behind { length chunks.old.items + chunks_across (dataset_of grid.now) ≤ touched (dataset_of grid.now) grid.now.shape.rows to }
-    ensures taken { IfOk result (λ yes. IsTrue yes → AreTakenBehind (dataset_of grid.now) (λ key. address_in (view_of index.now) key) chunks.old.items places.old chunks.new.items places.new) }
-    ensures count { IfOk result (λ yes. IsTrue yes → length chunks.new.items ≡ length chunks.old.items + chunks_across (dataset_of grid.now)) }
-    ensures placed { IfOk result (λ yes. IsTrue yes
-        → ((k : ℕ) (p : ChunkPlace) → slice_get chunks.old.items k ≡ Some p → IsEarlyPlace (dataset_of grid.now) (λ key. address_in (view_of index.now) key) grid.now.shape.rows k p)
-        → (k : ℕ) (p : ChunkPlace) → slice_get chunks.new.items k ≡ Some p → IsEarlyPlace (dataset_of grid.now) (λ key. address_in (view_of index.now) key) grid.now.shape.rows k p) }
-    ensures end { OnOk result ((places.old.end ≤ places.new.end) × (places.new.end < 2 ^ 64) × (places.new.limit ≡ places.old.limit)) }
+    ensures placed { IfOk result (λ yes. IsTrue yes → IsBandPlaced (dataset_of grid.now) (λ key. address_in (view_of index.now) key) chunks.old.items places.old chunks.new.items places.new) }
     ensures full { IfOk result (λ yes. IsFalse yes → (chunks.new.items ≡ chunks.old.items) × IsBandFull (dataset_of grid.now) (λ key. address_in (view_of index.now) key) chunks.old.items places.old) }
     ensures kept { OnErr result (take (length chunks.old.items) chunks.new.items ≡ chunks.old.items) }
 {
@@ -153,27 +133,11 @@ fn place_bands(
     chunks: &mut Vec<ChunkPlace>,
 ) -> Result<u64, OutOfMemory>
     requires grid { IsGrid grid.now }
+    requires can { CanPlace (dataset_of grid.now) (view_of index.now) to places.old }
     requires first { grid.now.shape.rows ≤ mid }
     requires order { mid < to }
-    requires room { (to - grid.now.shape.rows) * grid.now.shape.cols < 2 ^ 64 }
-    requires few { first_line (dataset_of grid.now) (div_up to grid.now.layout.chunk.0) ≤ most_lines (dataset_of grid.now) }
-    requires sound { IsSound (view_of index.now) }
-    requires fits { Fits (dataset_of grid.now) (view_of index.now) }
-    requires takes { (key : Key) → key.i < first_line (dataset_of grid.now) (div_up to grid.now.layout.chunk.0) → TakesKey (view_of index.now) key }
-    requires inside { AreInside (dataset_of grid.now) places.old.end (view_of index.now) }
-    requires small { places.old.end < 2 ^ 64 }
-    requires limit { places.old.limit ≤ 2 ^ 40 }
     requires known { length chunks.old.items ≡ touched (dataset_of grid.now) grid.now.shape.rows mid }
-    ensures bounds { IfOk result (λ row. (mid ≤ row) × (row ≤ to)) }
-    ensures whole { IfOk result (λ row. (row ≡ mid) ⊎ ((row ≡ to) ⊎ (row % grid.now.layout.chunk.0 ≡ 0))) }
-    ensures all { IfOk result (λ row. length chunks.new.items ≡ touched (dataset_of grid.now) grid.now.shape.rows row) }
-    ensures taken { OnOk result (AreTakenBehind (dataset_of grid.now) (λ key. address_in (view_of index.now) key) chunks.old.items places.old chunks.new.items places.new) }
-    ensures placed { OnOk result (
-        ((k : ℕ) (p : ChunkPlace) → slice_get chunks.old.items k ≡ Some p → IsEarlyPlace (dataset_of grid.now) (λ key. address_in (view_of index.now) key) grid.now.shape.rows k p)
-        → (k : ℕ) (p : ChunkPlace) → slice_get chunks.new.items k ≡ Some p → IsEarlyPlace (dataset_of grid.now) (λ key. address_in (view_of index.now) key) grid.now.shape.rows k p) }
-    ensures end { OnOk result ((places.old.end ≤ places.new.end) × (places.new.end < 2 ^ 64) × (places.new.limit ≡ places.old.limit)) }
-    ensures full { IfOk result (λ row. row < to → IsBandFull (dataset_of grid.now) (λ key. address_in (view_of index.now) key) chunks.new.items places.new) }
-    ensures same { IfOk result (λ row. row ≡ mid → (chunks.new.items ≡ chunks.old.items) × (places.new ≡ places.old)) }
+    ensures placed { IfOk result (λ row. AreBandsPlaced (dataset_of grid.now) (λ key. address_in (view_of index.now) key) mid to chunks.old.items places.old row chunks.new.items places.new) }
     ensures kept { OnErr result (take (length chunks.old.items) chunks.new.items ≡ chunks.old.items) }
 {
     let rows = grid.layout.chunk.0;
@@ -211,37 +175,16 @@ fn plan_early<W: PieceWrite>(
     image: &mut W,
 ) -> Result<Early, ImageError>
     requires grid { IsGrid grid.now }
+    requires can { CanPlace (dataset_of grid.now) (view_of index.now) to before.now }
     requires first { grid.now.shape.rows ≤ mid }
     requires order { mid < to }
-    requires room { (to - grid.now.shape.rows) * grid.now.shape.cols < 2 ^ 64 }
-    requires few { first_line (dataset_of grid.now) (div_up to grid.now.layout.chunk.0) ≤ most_lines (dataset_of grid.now) }
     requires chunks { div_up to grid.now.layout.chunk.0 * chunks_across (dataset_of grid.now) ≤ 1000000 }
     requires count { (to - mid) * row_bytes (dataset_of grid.now) ≤ length cells.now }
-    requires sound { IsSound (view_of index.now) }
-    requires fits { Fits (dataset_of grid.now) (view_of index.now) }
-    requires takes { (key : Key) → key.i < first_line (dataset_of grid.now) (div_up to grid.now.layout.chunk.0) → TakesKey (view_of index.now) key }
-    requires inside { AreInside (dataset_of grid.now) before.now.end (view_of index.now) }
-    requires small { before.now.end < 2 ^ 64 }
-    requires limit { before.now.limit ≤ 2 ^ 40 }
     requires known { length chunks.old.items ≡ touched (dataset_of grid.now) grid.now.shape.rows mid }
     requires ends { (k : ℕ) (p : ChunkPlace) → slice_get chunks.old.items k ≡ Some p → p.address + chunk_len (dataset_of grid.now) ≤ before.now.end }
-    ensures bounds { IfOk result (λ e. (mid ≤ e.to) × (e.to ≤ to)) }
-    ensures whole { IfOk result (λ e. (e.to ≡ mid) ⊎ ((e.to ≡ to) ⊎ (e.to % grid.now.layout.chunk.0 ≡ 0))) }
-    ensures all { IfOk result (λ e. length chunks.new.items ≡ touched (dataset_of grid.now) grid.now.shape.rows e.to) }
-    ensures taken { IfOk result (λ e. AreTakenBehind (dataset_of grid.now) (λ key. address_in (view_of index.now) key) chunks.old.items before.now chunks.new.items e.places) }
-    ensures placed { OnOk result (
-        ((k : ℕ) (p : ChunkPlace) → slice_get chunks.old.items k ≡ Some p → IsEarlyPlace (dataset_of grid.now) (λ key. address_in (view_of index.now) key) grid.now.shape.rows k p)
-        → (k : ℕ) (p : ChunkPlace) → slice_get chunks.new.items k ≡ Some p → IsEarlyPlace (dataset_of grid.now) (λ key. address_in (view_of index.now) key) grid.now.shape.rows k p) }
-    ensures end { IfOk result (λ e. (before.now.end ≤ e.places.end) × (e.places.end < 2 ^ 64) × (e.places.limit ≡ before.now.limit)) }
-    ensures full { IfOk result (λ e. e.to < to → IsBandFull (dataset_of grid.now) (λ key. address_in (view_of index.now) key) chunks.new.items e.places) }
-    ensures same { IfOk result (λ e. e.to ≡ mid → (chunks.new.items ≡ chunks.old.items) × (e.places ≡ before.now)) }
-    ensures exact { IfOk result (λ e. e.writes.items ≡ writes_behind (dataset_of grid.now) (take ((e.to - mid) * row_bytes (dataset_of grid.now)) cells.now) grid.now.shape.rows mid e.to chunks.new.items) }
-    ensures does { IfOk result (λ e. mid < e.to → RowsWritten (dataset_of grid.now) (take ((e.to - mid) * row_bytes (dataset_of grid.now)) cells.now) mid e.to (next_places (dataset_of grid.now) grid.now.shape.rows mid chunks.new.items) e.writes.items) }
-    ensures bytes { IfOk result (λ e. e.bytes ≡ (e.to - mid) * row_bytes (dataset_of grid.now)) }
-    ensures inside { IfOk result (λ e. e.bytes ≤ length cells.now) }
+    ensures placed { IfOk result (λ e. AreBandsPlaced (dataset_of grid.now) (λ key. address_in (view_of index.now) key) mid to chunks.old.items before.now e.to chunks.new.items e.places) }
+    ensures writes { IfOk result (λ e. AreEarlyWrites (dataset_of grid.now) cells.now mid e.to chunks.new.items e.places.end e.bytes e.writes.items) }
     ensures list { IfOk result (λ e. 1 ≤ vec_capacity e.writes) }
-    ensures sized { IfOk result (λ e. ArePieces e.places.end e.writes.items) }
-    ensures some { IfOk result (λ e. mid < e.to → e.writes.items ≢ []) }
     ensures kept { OnErr result (take (length chunks.old.items) chunks.new.items ≡ chunks.old.items) }
     ensures image { Same (W.view image.old) (W.view image.new) }
     ensures pieces { IfOk result (λ e. vec_len e.writes + 1 ≤ (W.view image.new).pieces) }

@@ -18,6 +18,7 @@ ghost use Rattle.h5w_chunks.specs.Shares.{first_line, new_writes, touched};
 ghost use Rattle.h5w_flush_laws.specs.EarlyRows.{IsEarlyPlace};
 ghost use Rattle.h5w_space.specs.declared.Full.{Full};
 ghost use Rattle.h5w_pieces.specs.NextPlaces.{next_places, writes_behind};
+ghost use Rattle.h5w_writer.specs.ChunkPlaces.{CanPrepare};
 ghost use Rattle.h5w_writer.specs.Flushes.{IsPrepared, SameBut, first_key, first_place, touched_by};
 ghost use Rattle.h5w_writer.specs.Starts.{IsStartedAt, TookTops, TookTwo};
 ghost use Rattle.h5w_model.specs.Arrays.{eahd_len, eaib_len};
@@ -25,7 +26,7 @@ ghost use Rattle.h5w_model.specs.Numbers.{undefined};
 ghost use Rattle.h5w_writer.specs.Refusals.{IsArrayUnplaced, IsDeepFor, IsDeepPart, IsFullFor, IsSpace, IsStartFull, IsUnplaced};
 ghost use Rattle.h5w_writer.specs.Sessions.{IsRoomy, IsSession, IsUnmade, IsWhole, most_lines, rows_of};
 ghost use Rattle.h5w_writer.specs.declared.refusal.FlushError.{FlushError};
-ghost use Rattle.h5w_writer.specs.Halves.{IsHalf, PlansGrowth, PlansStart};
+ghost use Rattle.h5w_writer.specs.Halves.{IsHalf, PlansGrowth, PlansStart, ShowsPrepared};
 
 use crate::planned::{Growing, Planned, Prepared, Starting};
 use crate::refusal::FlushError;
@@ -61,35 +62,15 @@ fn prepare(
     index: &mut Index,
 ) -> Result<Prepared, FlushError>
     requires grid { IsGrid grid.now }
-    requires order { grid.now.shape.rows < to }
-    requires first { grid.now.shape.rows ≤ mid }
-    requires last { mid ≤ to }
-    requires room { (to - grid.now.shape.rows) * grid.now.shape.cols < 2 ^ 64 }
-    requires few { first_line (dataset_of grid.now) (div_up to grid.now.layout.chunk.0) ≤ most_lines (dataset_of grid.now) }
-    requires count { length cells.now ≡ (to - mid) * grid.now.shape.cols * grid.now.int_type.size }
-    requires known { length early.now ≡ touched (dataset_of grid.now) grid.now.shape.rows mid }
-    requires placed { (k : ℕ) (p : ChunkPlace) → slice_get early.now k ≡ Some p → IsEarlyPlace (dataset_of grid.now) (λ key. address_in (view_of index.old) key) grid.now.shape.rows k p }
-    requires ends { (k : ℕ) (p : ChunkPlace) → slice_get early.now k ≡ Some p → p.address + chunk_len (dataset_of grid.now) ≤ taking.old.places.end }
-    requires sound { IsSound (view_of index.old) }
-    requires fits { Fits (dataset_of grid.now) (view_of index.old) }
-    requires takes { (key : Key) → key.i < first_line (dataset_of grid.now) (div_up to grid.now.layout.chunk.0) → TakesKey (view_of index.old) key }
-    requires inside { AreInside (dataset_of grid.now) taking.old.places.end (view_of index.old) }
-    requires small { taking.old.places.end < 2 ^ 64 }
-    requires limit { taking.old.places.limit ≤ 2 ^ 40 }
+    requires can { CanPrepare (dataset_of grid.now) (view_of index.old) mid to cells.now early.now taking.old.places }
     requires no_chunks { taking.old.chunks.items ≡ [] }
     requires none_added { taking.old.added.items ≡ [] }
     ensures sound { IsSound (view_of index.new) }
     ensures roomy { IsRoomy (dataset_of grid.now) (view_of index.old) → IsRoomy (dataset_of grid.now) (view_of index.new) }
-    ensures prepared { IfOk result (λ p. IsPrepared (dataset_of grid.now) to (view_of index.old) early.now taking.old.places taking.new.chunks.items taking.new.added.items (view_of index.new) p.begun taking.new.places) }
-    ensures all { OnOk result (length taking.new.chunks.items ≡ touched (dataset_of grid.now) grid.now.shape.rows to) }
-    ensures exact { IfOk result (λ p. p.writes.items ≡ writes_behind (dataset_of grid.now) cells.now grid.now.shape.rows mid to taking.new.chunks.items) }
-    ensures does { IfOk result (λ p. mid < to → RowsWritten (dataset_of grid.now) cells.now mid to (next_places (dataset_of grid.now) grid.now.shape.rows mid taking.new.chunks.items) p.writes.items) }
+    ensures prepared { IfOk result (λ p. ShowsPrepared (dataset_of grid.now) (view_of index.old) mid to cells.now early.now taking.old.places p taking.new.chunks.items taking.new.added.items (view_of index.new) taking.new.places) }
     ensures partly { OnErr result (IsPartly (dataset_of grid.now) to (view_of index.old) taking.new.added.items (view_of index.new)) }
     ensures full { (full : Full) → result ≡ Err (FlushError.Space full) → IsFullPart (dataset_of grid.now) to (view_of index.old) early.now taking.old.places full }
     ensures deep { result ≡ Err FlushError.Deep → IsDeepPart (dataset_of grid.now) to (view_of index.old) }
-    ensures after { IfOk result (λ p. p.after ≡ copy_pieces p.begun + in_place_pieces p.begun + 2) }
-    ensures room { IfOk result (λ p. vec_len p.writes + p.after ≤ vec_capacity p.writes) }
-    ensures end { IfOk result (λ p. p.end ≡ taking.new.places.end) }
     ensures causes { IfErr result (λ e. IsSpace e ⊎ ((e ≡ FlushError.Deep) ⊎ (e ≡ FlushError.OutOfMemory))) }
 {
     name_chunks(grid, early, to, taking, index)?;
@@ -268,11 +249,11 @@ impl WriterCore {
         ensures deep { result ≡ Err FlushError.Deep → IsDeepFor self.old }
         ensures causes { IfErr result (λ e. IsSpace e ⊎ ((e ≡ FlushError.Deep) ⊎ (e ≡ FlushError.OutOfMemory))) }
     {
-        if self.is_unmade() {
-            let taking = self.taking()?;
+        let unmade = self.is_unmade();
+        let taking = self.taking()?;
+        if unmade {
             return Ok(Planned::Starts(self.plan_starting(taking)?));
         }
-        let taking = self.taking()?;
         Ok(Planned::Grows(self.plan_growing(taking)?))
     }
 

@@ -1,5 +1,5 @@
 -- What each piece of a session leaves of it.
-use Rattle.std.proofs.Common.{◌≡◌, Bool, true, false, List, [], ◌∷◌, refl, sym, ap, ◌∙◌, subst}
+use Rattle.std.proofs.Common.{◌≡◌, Bool, true, false, List, [], ◌∷◌, refl, sym, ◌∙◌, subst}
 use Rattle.h5w_model.specs.declared.piece.Write.{Write}
 use Rattle.h5w_writer.specs.Sessions.{AfterPiece, Session, Settles}
 use Rattle.h5w_writer_laws.specs.Leaves.{EachLeaves, PieceLeaves}

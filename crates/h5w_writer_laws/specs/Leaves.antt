@@ -16,10 +16,10 @@ pub record PieceLeaves (s : Session) (ws : List Write) (t : Session) : Type 0 wh
   pub end : t.places.end ≡ s.places.end
   pub limit : t.places.limit ≡ s.places.limit
   pub pending : t.pending ≡ ws
-  -- the last one of a flush brings its rows, and no last one leaves a flush
+  -- the last one of a flush brings its rows, and after a last one no flush is on its way
   pub brings : s.flushing ≡ true → ws ≡ [] → t.committed ≡ s.dataset.shape.rows
   pub idle : ws ≡ [] → t.flushing ≡ false
-  -- a piece of no flush leaves nothing but itself
+  -- where no flush is on its way, nothing changes but what is pending
   pub still : s.flushing ≡ false → t ≡ record s { pending = ws }
 
 -- each piece does

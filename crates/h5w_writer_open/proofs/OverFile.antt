@@ -47,8 +47,8 @@ use Rattle.h5w_opening.proofs.WritingLemmas.{alike_ok, dataset_alike, root_alike
 use Rattle.h5w_first_flush_laws.specs.FirstFlushes.{no_chunk}
 use Rattle.h5w_first_flush_laws.proofs.FirstFlushLemmas.{unnamed_nowhere}
 use Rattle.h5w_first_flush_laws.proofs.StartLemmas.{created_blank}
-use Rattle.h5w_block_laws.specs.HeaderAlone.{IsHeaderAlone}
-use Rattle.h5w_block_laws.proofs.AloneLemmas.{alone_begins}
+use Rattle.h5w_first_flush_laws.specs.HeaderAlone.{IsHeaderAlone}
+use Rattle.h5w_first_flush_laws.proofs.AloneLemmas.{alone_begins}
 use Rattle.h5w_writer.specs.Indexes.{IsBlank, IsKeptIndex, Lacks, an_index, a_block}
 use Rattle.h5w_writer_open.specs.OpenAnswers.{IsArrayOf, IsBare, IsBlankOf, IsEmptyOf, IsIndexOf, IsTreeOf, opened_session, session_over, writing_flags}
 use Rattle.h5w_writer_open.specs.OpenRanges.{first_key, first_open_line}

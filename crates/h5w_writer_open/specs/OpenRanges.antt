@@ -59,7 +59,7 @@ chunks_behind len line (r ∷ rs) = (if nat_lt r.key.i line then [] else range_a
 
 -- the chunks of the last committed band and later
 abbrev pub chunks_in : Described → IndexView → List Extent
-chunks_in d (an_array v) = chunks_from v (chunk_bytes d) (first_open_line d) (131060 - first_open_line d)
+chunks_in d (an_array v) = chunks_from v (chunk_bytes d) (first_open_line d) (format_limits.array - first_open_line d)
 chunks_in d (a_tree place v) = chunks_behind (chunk_bytes d) (first_open_line d) (records v)
 
 abbrev pub open_chunks : Described → Result IndexView NoIndex → List Extent

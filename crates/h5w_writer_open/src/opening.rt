@@ -42,18 +42,14 @@ use h5w_model::{
     BlockFault, Cell, HeaderError, IndexKind, OutOfMemory, PIECE, Piece, ReadError, Super,
     Unsupported,
 };
+use h5w_ohdr::kind::{DATASPACE, LAYOUT};
 use h5w_ohdr::{Msg, Msgs, messages};
 use h5w_opening::{OpenError, Opening, find};
 use h5w_writer::{FileParts, WriterCore};
 use std::alloc::Global;
 
-/// The type of a dataspace message, and the fewest bytes of one with rows.
-const DATASPACE: u8 = 0x01;
-
+/// The fewest bytes of a dataspace message with rows.
 const SHORTEST: usize = 12;
-
-/// The type of a layout message.
-const LAYOUT: u8 = 0x08;
 
 /// Why an array is not opened, as why a file is not.
 fn array_error(e: OpenArrayError) -> OpenError

@@ -1,7 +1,7 @@
 //! The ranges of a file that is opened, and the first of them that is refused.
 ghost use Rattle.std.specs.Prelude.{◌≡◌, ◌⊎◌, ◌+◌, ◌-◌, ◌≤◌, ◌++◌, ◌∷◌, [], take, nat_lt, IfErr, IfOk, MatchOption, Some, None, Ok, Err, OnOk};
 ghost use Rattle.std.specs.Option.{option_copied};
-ghost use Rattle.h5w_model.specs.Tables.{chunks_across};
+ghost use Rattle.h5w_model.specs.Tables.{chunks_across, format_limits};
 ghost use Rattle.h5w_bt_index.specs.Held as trees;
 ghost use Rattle.h5w_bt_index.specs.Index.{IsShaped, records};
 ghost use Rattle.h5w_dataset.specs.Described.{described_of};
@@ -29,9 +29,6 @@ use std::alloc::Global;
 /// How many ranges come first: chunk 0 of the dataset header, and an array's header and its index block, or the superblock and a tree's
 /// header.
 const IN_PLACE: usize = 3;
-
-/// How many bytes a superblock has.
-const SUPERBLOCK_LEN: u64 = 48;
 
 /// How many bytes an array's header has.
 const ARRAY_HEADER_LEN: u64 = Eahd::LEN as u64;
@@ -125,7 +122,7 @@ fn array_chunks(
     from: u64,
     len: u64,
 ) -> Result<Vec<Extent>, OutOfMemory>
-    ensures { IfOk result (λ r. r.items ≡ chunks_from array.now len from (131060 - from)) }
+    ensures { IfOk result (λ r. r.items ≡ chunks_from array.now len from (format_limits.array - from)) }
 {
     let mut chunks = Vec::new(alloc);
     for i in from..CHUNKS {
@@ -213,7 +210,7 @@ fn superblock() -> Extent
 {
     Extent {
         at: 0,
-        size: SUPERBLOCK_LEN,
+        size: h5w_super::LEN as u64,
     }
 }
 

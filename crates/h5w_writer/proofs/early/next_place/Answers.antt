@@ -15,7 +15,7 @@ pub get-requires-clause-key : goal.get-requires-clause-key
 get-requires-clause-key c =
     let d = dataset_of c.args.grid.now in
     let own = key_in d d.shape.rows c.args.to (length c.args.chunks.now) (is_cut c.args.grid.now c.requires.grid) c.requires.behind in
-    subst (λ k. TakesKey (view_of c.args.index.now) k) (sym c.touched_key.ensures.exact) (c.requires.takes _ own.row)
+    subst (λ k. TakesKey (view_of c.args.index.now) k) (sym c.touched_key.ensures.exact) (c.requires.can.takes _ own.row)
 
 pub overflow_mul-stored : goal.overflow_mul-stored
 overflow_mul-stored c =
@@ -30,7 +30,7 @@ returns-in-Some-clause-taken c =
     let key = c.touched_key.result in
     let p : ChunkPlace = record { address = c.in-Some.address; stored = nat_lt (c.touched_band.result * c.args.grid.now.layout.chunk.0) c.args.grid.now.shape.rows } in
     let there = found_some (address_in v key) p.address (sym c.get.ensures ∙ c.in-Some.is) in
-    next_there d v c.args.places.now c.args.chunks.now key p c.requires.fits c.requires.inside c.touched_key.ensures.exact there.0 (λ e. there.1 (there.0 ∙ e))
+    next_there d v c.args.places.now c.args.chunks.now key p c.requires.can.fits c.requires.can.inside c.touched_key.ensures.exact there.0 (λ e. there.1 (there.0 ∙ e))
 
 pub returns-in-Some-clause-placed : goal.returns-in-Some-clause-placed
 returns-in-Some-clause-placed c =
@@ -66,7 +66,7 @@ returns-in-Ok-clause-placed c =
     let v = view_of c.args.index.now in
     let p : ChunkPlace = record { address = c.in-Ok.address; stored = false } in
     let some = (sizes_of c.args.grid.now c.requires.grid).some in
-    let defined = taken_defined c.args.places.now c.take.new.self c.in-Ok.address c.chunk_len.result c.in-Ok.ensures.taken c.in-Ok.ensures.live (omega (arith, some, c.chunk_len.ensures.exact)) c.requires.small c.requires.limit in
+    let defined = taken_defined c.args.places.now c.take.new.self c.in-Ok.address c.chunk_len.result c.in-Ok.ensures.taken c.in-Ok.ensures.live (omega (arith, some, c.chunk_len.ensures.exact)) c.requires.can.small c.requires.can.limit in
     new_placed d v c.args.chunks.now c.touched_key.result p c.touched_key.ensures.exact (found_none (address_in v c.touched_key.result) (sym c.get.ensures ∙ c.in_default.is)) defined refl
 
 pub returns-in-Err-clause-full : goal.returns-in-Err-clause-full

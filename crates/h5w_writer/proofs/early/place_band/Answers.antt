@@ -1,4 +1,5 @@
-use Rattle.std.proofs.Common.{rules, arith, ◌≡◌, [], ◌∷◌, ◌++◌, List, length, length-append, ap, sym, subst, refl, ◌∙◌}
+use Rattle.std.proofs.Common.{arith, ◌≡◌, [], ◌∷◌, ◌++◌, List, length, length-append, ap, sym, subst, ◌∙◌}
+use Rattle.h5w_space.specs.Space.{Space}
 use Rattle.h5w_chunks.specs.Grids.{dataset_of}
 use Rattle.h5w_chunks.specs.declared.grid.ChunkPlace.{ChunkPlace}
 use Rattle.h5w_flush_laws.specs.EarlyRows.{IsEarlyPlace}
@@ -6,18 +7,31 @@ use Rattle.h5w_index.specs.Held.{view_of}
 use Rattle.h5w_index.specs.Naming.{AreTakenBehind}
 use Rattle.h5w_index.specs.Views.{address_in}
 use Rattle.h5w_index.proofs.BehindLemmas.{behind_laws}
-use Rattle.h5w_writer.proofs.PlaceLemmas.{AllEarly, early_pushed}
+use Rattle.h5w_writer.specs.ChunkPlaces.{AllEarly}
+use Rattle.h5w_writer.proofs.ExitLemmas.{no_value}
+use Rattle.h5w_writer.proofs.PlaceLemmas.{can_on, early_pushed, first_kept, grown_none, grown_on, nothing_taken}
+use Rattle.h5w_writer.proofs.TakingLemmas.{on_err}
 use Rattle.h5w_writer.proofs.early.place_band.Goals as goal
+
+pub across-end-requires : goal.across-end-requires
+across-end-requires c = c.requires.grid
 
 pub loop-init : goal.loop-init
 loop-init c = record {
-  taken = behind_laws.behind_none (dataset_of c.args.grid.now) (address_in (view_of c.args.index.now)) c.args.chunks.now.items c.args.places.now c.args.places.now (record { end = refl; free = refl; retired = refl; limit = refl });
+  taken = nothing_taken (dataset_of c.args.grid.now) (address_in (view_of c.args.index.now)) c.args.chunks.now.items c.args.places.now;
   placed = λ x. x;
   count = omega arith;
-  rises = omega arith;
-  small = c.requires.small;
-  limit = refl;
+  grown = grown_none c.args.places.now c.requires.can.small;
 }
+
+pub next_place-requires : goal.next_place-requires
+next_place-requires c =
+    let own = ap length c.deref.ensures.value in
+    record {
+      grid = c.requires.grid;
+      can = can_on (dataset_of c.args.grid.now) (view_of c.args.index.now) c.args.to c.args.places.now c.loop.places c.loop.invariant.grown c.requires.can;
+      behind = omega (arith, own, c.loop.invariant.count, c.loop-test.true, c.across-end.ensures, c.requires.behind);
+    }
 
 pub loop-preserved : goal.loop-preserved
 loop-preserved c =
@@ -27,7 +41,7 @@ loop-preserved c =
     let first = c.args.chunks.now.items in
     let chunks = c.loop.chunks.items in
     let p : ChunkPlace = c.in-Some.place in
-    let own : c.deref.result.now ≡ chunks = search rules in
+    let own : c.deref.result.now ≡ chunks = c.deref.ensures.value in
     let pushed : c.push.new.self.items ≡ chunks ++ p ∷ [] = c.in_ok-push-in-Some.ensures.items in
     let step : AreTakenBehind d old chunks c.loop.places (chunks ++ p ∷ []) c.next_place.new.places = subst (λ (cs : List ChunkPlace). AreTakenBehind d old cs c.loop.places (cs ++ p ∷ []) c.next_place.new.places) own c.in-Some.ensures.taken in
     let here : IsEarlyPlace d old d.shape.rows (length chunks) p = subst (λ (cs : List ChunkPlace). IsEarlyPlace d old d.shape.rows (length cs) p) own c.in-Some.ensures.placed in
@@ -36,7 +50,5 @@ loop-preserved c =
           (behind_laws.behind_again d old first c.args.places.now c.loop.places c.next_place.new.places chunks (chunks ++ p ∷ []) inv.taken step);
       placed = λ before. subst (λ (cs : List ChunkPlace). AllEarly d old cs) (sym pushed) (early_pushed d old chunks p here (inv.placed before));
       count = omega (arith, ap length pushed, length-append chunks (p ∷ []), inv.count);
-      rises = omega (arith, inv.rises, c.in-Some.ensures.kept.0);
-      small = c.in-Some.ensures.kept.1;
-      limit = c.in-Some.ensures.kept.2 ∙ inv.limit;
+      grown = grown_on c.args.places.now c.loop.places c.next_place.new.places inv.grown c.in-Some.ensures.grown;
     }

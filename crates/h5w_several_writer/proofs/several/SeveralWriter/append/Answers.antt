@@ -16,7 +16,7 @@ invariant_of-self g c =
     let e = c.append_waiting.ensures in
     let inside : c.args.d < length c.self.inside.parts.items = omega (arith, c.requires.inside, ap (λ (S : Sessions). length S.parts) c.self.view_is) in
     let at = get_at c.self.inside.parts.items c.args.d s inside ∙ ap (λ (v : Session). Some v) (sym c.index_mut.ensures.value) in
-    (added_either _ c.args.d s c.append_waiting.new.self c.args.values.now c.append_waiting.result c.self.invariant.0 at e.added e.is e.kept, c.self.invariant.1)
+    added_either _ c.args.d s c.append_waiting.new.self c.args.values.now c.append_waiting.result c.self.invariant at e.added e.is e.kept
 
 pub returns-clause-added : goal.returns-clause-added
 returns-clause-added g c =
@@ -76,7 +76,7 @@ returns-clause-room g c =
     let inside : c.args.d < length i.parts.items = omega (arith, c.requires.inside, ap (λ (S : Sessions). length S.parts) c.self.view_is) in
     let at = get_at i.parts.items c.args.d s inside ∙ ap (λ (w : Session). Some w) (sym c.index_mut.ensures.value) in
     let idle : length (all_pending i.parts.items) ≡ 0 = omega (arith, c.pending-pending.ensures, c.if-pending-gt0.false, ap (λ (S : Sessions). length (all_pending S.parts)) c.self.view_is) in
-    room_at v c.args.d s c.append_waiting.new.self c.args.values.now c.append_waiting.result _ c.self.invariant.0 at idle c.append_waiting.ensures.added c.append_waiting.ensures.room
+    room_at v c.args.d s c.append_waiting.new.self c.args.values.now c.append_waiting.result _ c.self.invariant at idle c.append_waiting.ensures.added c.append_waiting.ensures.room
 
 pub returns-clause-stands : goal.returns-clause-stands
 returns-clause-stands g c =
@@ -86,4 +86,4 @@ returns-clause-stands g c =
     append_stands c.append_waiting.result S _ c.args.d c.args.values.now going idle c.requires.rows (returns-clause-refused g c) (returns-clause-added g c)
 
 pub returns-clause-sessions : goal.returns-clause-sessions
-returns-clause-sessions g c = (invariant_of-self g c).0.sessions
+returns-clause-sessions g c = (invariant_of-self g c).sessions

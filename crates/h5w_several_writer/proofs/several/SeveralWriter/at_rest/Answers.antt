@@ -1,6 +1,5 @@
 use Rattle.std.proofs.Common.{◌∙◌, List, length, false, sym, ap, subst, arith}
 use Rattle.h5w_writer.specs.Sessions.{Session}
-use Rattle.h5w_space.specs.Space.{Space}
 use Rattle.h5w_several_writer.specs.Opened.{places_from, rested}
 use Rattle.h5w_several_writer.specs.Parts.{AllSessions, AreCounted}
 use Rattle.h5w_several_writer.proofs.CountedLemmas.{back, counted_at_rest, rested_length}
@@ -19,7 +18,7 @@ invariant_of-result c =
     let lent = ap (λ (vs : List Session). length vs) c.deref_mut.ensures.value in
     let long = ap (λ (vs : List Session). length vs) is ∙ rested_length root limit ss in
     let same = back c.args.parts.len us ss long (omega (arith, lent, c.deref_mut.ensures.len)) ∙ is in
-    (subst AreCounted (λ j. record { root = root; places = sym c.new-places.ensures j; parts = sym same j; stopped = false; keeps = false }) k, ap (λ (t : Space). t.limit) (sym c.new-places.ensures))
+    subst AreCounted (λ j. record { root = root; places = sym c.new-places.ensures j; parts = sym same j; stopped = false; keeps = false }) k
 
 pub returns-clause-sessions : goal.returns-clause-sessions
-returns-clause-sessions c = let counted = (invariant_of-result c).0 in counted.sessions
+returns-clause-sessions c = (invariant_of-result c).sessions

@@ -10,12 +10,12 @@ use Rattle.h5w_several_writer.proofs.PartLemmas.{first_begun}
 use Rattle.h5w_several_writer.proofs.several.SeveralWriter.clear.Goals as goal
 
 pub close_all-requires-clause-begun : goal.close_all-requires-clause-begun
-close_all-requires-clause-begun c = let s = c.self.invariant.0.sessions in omega (arith, c.end.ensures, first_begun _ _ s.some s.each)
+close_all-requires-clause-begun c = let s = c.self.invariant.sessions in omega (arith, c.end.ensures, first_begun _ _ s.some s.each)
 
 pub close_all-requires-clause-ends : goal.close_all-requires-clause-ends
 close_all-requires-clause-ends c =
     let i = c.self.inside in
-    subst (λ (ss : List Session). AreEnded c.end.result i.limit ss) (sym c.deref_mut.ensures.value) (ended_parts _ c.end.result i.limit i.parts.items c.end.ensures c.self.invariant.1 c.self.invariant.0.sessions.each)
+    subst (λ (ss : List Session). AreEnded c.end.result c.limit.result ss) (sym c.deref_mut.ensures.value) (ended_parts _ c.end.result c.limit.result i.parts.items c.end.ensures c.limit.ensures c.self.invariant.sessions.each)
 
 pub invariant_of-self : goal.invariant_of-self
 invariant_of-self c =
@@ -24,11 +24,11 @@ invariant_of-self c =
     let root : c.in-Ok.root ≡ closed_super S = c.in-Ok.ensures.root in
     let us = c.close_all.new.parts in
     let closed : us ≡ closed_parts (closed_super S) i.parts.items = c.in-Ok.ensures.closed ∙ (λ j. closed_parts (root j) (c.deref_mut.ensures.value j)) in
-    let k = counted_closed S c.self.invariant.0 (subst AllSessions closed c.close_all.ensures.sessions) in
+    let k = counted_closed S c.self.invariant (subst AllSessions closed c.close_all.ensures.sessions) in
     let lent = ap (λ (vs : List Session). length vs) c.deref_mut.ensures.value in
     let long = ap (λ (vs : List Session). length vs) closed ∙ closed_length (closed_super S) i.parts.items in
     let same = back i.parts.len us i.parts.items long (omega (arith, lent, c.deref_mut.ensures.len)) ∙ closed in
-    (subst AreCounted (λ j. record { root = sym root j; places = i.places; parts = sym same j; stopped = true; keeps = i.keeps }) k, c.self.invariant.1)
+    subst AreCounted (λ j. record { root = sym root j; places = i.places; parts = sym same j; stopped = true; keeps = i.keeps }) k
 
 pub returns-in-Ok-clause-reads : goal.returns-in-Ok-clause-reads
 returns-in-Ok-clause-reads c =
@@ -37,4 +37,4 @@ returns-in-Ok-clause-reads c =
     subst (λ (r : Super). super_at (super_bytes r) ≡ Ok r) root c.in-Ok.ensures.reads
 
 pub returns-in-Ok-clause-sessions : goal.returns-in-Ok-clause-sessions
-returns-in-Ok-clause-sessions c = (invariant_of-self c).0.sessions
+returns-in-Ok-clause-sessions c = (invariant_of-self c).sessions

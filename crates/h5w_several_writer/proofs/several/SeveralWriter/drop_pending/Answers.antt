@@ -14,7 +14,7 @@ invariant_of-self c =
     let long = ap (λ (vs : List Session). length vs) stopped ∙ stopped_length ss in
     let lent = ap (λ (vs : List Session). length vs) c.deref_mut.ensures.value in
     let same = back i.parts.len us ss long (omega (arith, lent, c.deref_mut.ensures.len)) ∙ stopped in
-    (subst (λ (vs : List Session). AreCounted (record { root = i.root; places = i.places; parts = vs; stopped = true; keeps = i.keeps })) (sym same) (counted_stopped _ c.self.invariant.0), c.self.invariant.1)
+    subst (λ (vs : List Session). AreCounted (record { root = i.root; places = i.places; parts = vs; stopped = true; keeps = i.keeps })) (sym same) (counted_stopped _ c.self.invariant)
 
 pub returns-clause-sessions : goal.returns-clause-sessions
-returns-clause-sessions c = (invariant_of-self c).0.sessions
+returns-clause-sessions c = (invariant_of-self c).sessions

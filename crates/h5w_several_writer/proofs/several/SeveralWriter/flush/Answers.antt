@@ -8,15 +8,15 @@ use Rattle.h5w_several_writer.proofs.StandLemmas.{flush_ready, flush_stands, ref
 use Rattle.h5w_several_writer.proofs.several.SeveralWriter.flush.Goals as goal
 
 pub returns-in_err-ready-clause-kept : goal.returns-in_err-ready-clause-kept
-returns-in_err-ready-clause-kept g c = on_err _ (subst (λ (S : Sessions). SameButHeld S S) c.self.view_is (same_held _ c.self.invariant.0.sessions))
+returns-in_err-ready-clause-kept g c = on_err _ (subst (λ (S : Sessions). SameButHeld S S) c.self.view_is (same_held _ c.self.invariant.sessions))
 
 pub returns-in_err-ready-clause-sessions : goal.returns-in_err-ready-clause-sessions
-returns-in_err-ready-clause-sessions g c = subst AreSessions c.self.view_is c.self.invariant.0.sessions
+returns-in_err-ready-clause-sessions g c = subst AreSessions c.self.view_is c.self.invariant.sessions
 
 pub returns-clause-rows : goal.returns-clause-rows
 returns-clause-rows g c =
     let ready = flush_ready c.args.self.now c.in_ok-ready.ensures in
-    let parts = subst (λ (S : Sessions). AreParts S S.parts) c.self.view_is c.self.invariant.0.sessions.each in
+    let parts = subst (λ (S : Sessions). AreParts S S.parts) c.self.view_is c.self.invariant.sessions.each in
     flush_plans c.flush_counted.result c.args.self.now _ parts ready.1 c.flush_counted.ensures.flushed
 
 pub returns-clause-stands : goal.returns-clause-stands

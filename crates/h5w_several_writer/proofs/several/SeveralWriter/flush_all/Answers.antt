@@ -8,11 +8,11 @@ use Rattle.h5w_several_writer.proofs.several.SeveralWriter.flush_all.Goals as go
 
 pub flush_parts-requires-clause-idle : goal.flush_parts-requires-clause-idle
 flush_parts-requires-clause-idle g c =
-    let idle = idle_parts _ _ c.self.invariant.0.sessions.each (ap (λ (S : Sessions). length (all_pending S.parts)) c.self.view_is ∙ c.requires.idle) in
+    let idle = idle_parts _ _ c.self.invariant.sessions.each (ap (λ (S : Sessions). length (all_pending S.parts)) c.self.view_is ∙ c.requires.idle) in
     subst (λ (n : ℕ). AreIdle n c.deref_mut.result.now) (sym c.end-from.ensures) (subst (λ (ss : List Session). AreIdle c.self.inside.places.end ss) (sym c.deref_mut.ensures.value) idle)
 
 pub flush_parts-requires-clause-begun : goal.flush_parts-requires-clause-begun
-flush_parts-requires-clause-begun g c = let s = c.self.invariant.0.sessions in first_begun _ _ s.some s.each
+flush_parts-requires-clause-begun g c = let s = c.self.invariant.sessions in first_begun _ _ s.some s.each
 
 pub invariant_of-self : goal.invariant_of-self
 invariant_of-self g c =
@@ -23,11 +23,11 @@ invariant_of-self g c =
     let e = c.flush_parts.ensures in
     let f = subst (λ (ss : List Session). OnOk r (AreFlushed i.root i.places ss n.root n.places n.parts)) c.deref_mut.ensures.value e.flushed in
     let same = subst (λ (ss : List Session). OnErr r (AreSameBut ss n.parts)) c.deref_mut.ensures.value e.kept in
-    let limit = subst (λ (l : ℕ). OnOk r (n.places.limit ≡ l)) c.self.invariant.1 e.limit in
-    let x = flushed_either S r n.root n.places n.parts c.self.invariant.0 f e.sessions e.version limit e.few same e.root e.places in
+    let limit = subst (λ (l : ℕ). OnOk r (n.places.limit ≡ l)) c.limit.ensures e.limit in
+    let x = flushed_either S r n.root n.places n.parts c.self.invariant f e.sessions e.version limit e.few same e.root e.places in
     let lent = ap (λ (vs : List Session). length vs) c.deref_mut.ensures.value in
     let parts = back i.parts.len n.parts i.parts.items (flushed_length S r n.root n.places n.parts f same) (omega (arith, lent, c.deref_mut.ensures.len)) in
-    (subst (λ (vs : List Session). AreCounted (record { root = n.root; places = n.places; parts = vs; stopped = i.stopped; keeps = i.keeps })) (sym parts) x.0, c.self.invariant.1 ∙ sym x.1)
+    subst (λ (vs : List Session). AreCounted (record { root = n.root; places = n.places; parts = vs; stopped = i.stopped; keeps = i.keeps })) (sym parts) x
 
 pub returns-clause-sessions : goal.returns-clause-sessions
-returns-clause-sessions g c = (invariant_of-self g c).0.sessions
+returns-clause-sessions g c = (invariant_of-self g c).sessions

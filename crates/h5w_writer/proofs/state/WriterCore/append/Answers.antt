@@ -1,11 +1,17 @@
-use Rattle.std.proofs.Common.{arith, Ok, refl, ◌≡◌, ◌≢◌, ◌≤◌, ◌<◌, ◌+◌, ◌/◌, ℕ, take, [], ap, sym, subst, ◌∙◌, length}
+use Rattle.std.proofs.Common.{arith, List, Some, None, Ok, Err, refl, ◌≡◌, ◌≢◌, ◌≤◌, ◌<◌, ◌+◌, ◌/◌, ℕ, take, [], ap, sym, subst, ◌∙◌, inl, inr, length}
+use Rattle.h5w_image.proofs.ViewLemmas.{same_itself}
 use Rattle.h5w_model.specs.Messages.{IsIntType, IsLayout}
 use Rattle.h5w_model.proofs.IntegerLemmas.{int_size_bounds}
 use Rattle.h5w_writer.specs.Early.{WrittenEarly, dirty_of}
+use Rattle.h5w_writer.specs.Refusals.{append_refusal}
 use Rattle.h5w_writer.specs.Sessions.{Session, IsSession, with_values}
+use Rattle.h5w_writer.specs.declared.refusal.AppendError.TheVariants.{Failed, OutOfMemory}
 use Rattle.h5w_writer.proofs.AppendStands.{adds_unplanned, adds_values, append_few, append_over, append_stands, taken_back}
+use Rattle.h5w_writer.proofs.ExitLemmas.{is_error, no_value, of_error, told_error}
+use Rattle.h5w_writer.proofs.RefusalLemmas.{AppendCauses, fault_causes, fault_failed, no_failed_append, refused_alike, some_refused}
 use Rattle.h5w_writer.proofs.SessionFields.{session_of}
-use Rattle.h5w_writer.proofs.StateLemmas.{accepted, counts, values_is, waits_is, with_values_is}
+use Rattle.h5w_writer.proofs.StateLemmas.{accepted, counts, none_refused, values_is, waits_is, with_values_is}
+use Rattle.h5w_writer.proofs.TakingLemmas.{on_err}
 use Rattle.h5w_writer.proofs.state.WriterCore.append.Goals as goal
 
 pub overflow_add-self : goal.overflow_add-self
@@ -38,51 +44,112 @@ invariant_of-self-in-Err g c =
     let back = taken_back u v _ c.put.new.self c.truncate.new.self (length c.args.values.now / c.self.inside.grid.shape.cols) (c.self-2.view_is ∙ c.in-Err.ensures.kept) c.in_ok-put.ensures.added (c.truncate.ensures ∙ ap (λ (n : ℕ). take n c.self-2.inside.backlog.waiting) long) in
     (subst IsSession (sym back) c.self.invariant.0, c.self-2.invariant.1, c.self-2.invariant.2, c.self-2.invariant.3, c.self-2.invariant.4)
 
-pub returns-in-Ok-clause-added : goal.returns-in-Ok-clause-added
-returns-in-Ok-clause-added g c =
+pub returns-in_err-check : goal.returns-in_err-check
+returns-in_err-check g c =
     let s = c.args.self.now in
     let values = c.args.values.now in
-    let same = with_values_is _ s values c.put.new.self c.self.view_is c.in_ok-put.ensures.added in
-    let written : WrittenEarly (with_values s values) c.write_early.new.self = subst (λ (y : Session). WrittenEarly y c.write_early.new.self) same c.in-Ok.ensures.written in
-    adds_values s values c.write_early.new.self written
+    let r = c.from_residual.result in
+    let gone = c.from_residual.ensures.1 in
+    let e = c.in_err-check.field-0.0 in
+    let by = some_refused (append_refusal s values) e c.in_err-check.ensures in
+    record {
+      added = no_value _ _ r gone;
+      written = no_value _ _ r gone;
+      within = no_value _ _ r gone;
+      early = no_value _ _ r gone;
+      rows = no_value _ _ r gone;
+      unplanned = no_value _ _ r gone;
+      stands = no_value _ _ r gone;
+      bound = no_value _ _ r gone;
+      over = no_value _ _ r gone;
+      refused = λ f told. refused_alike (append_refusal s values) r e f by (is_error r e gone) told;
+      causes = of_error (AppendCauses s values) r e gone (inl by);
+      fault = λ told. absurd (no_failed_append s values (by ∙ ap (λ x. Some x) (told_error r e Failed gone told)));
+      kept = on_err r refl;
+      image = same_itself (g.W.PieceRead.view c.args.image.now);
+      room = no_value _ _ r gone;
+    }
 
-pub returns-in-Ok-clause-unplanned : goal.returns-in-Ok-clause-unplanned
-returns-in-Ok-clause-unplanned g c =
+pub returns-in_err-put : goal.returns-in_err-put
+returns-in_err-put g c =
     let s = c.args.self.now in
     let values = c.args.values.now in
+    let r = c.from_residual-in_err-put.result in
+    let gone = c.from_residual-in_err-put.ensures.1 in
+    let none = none_refused (append_refusal s values) (Ok tt) c.in_ok-check.ensures refl in
+    record {
+      added = no_value _ _ r gone;
+      written = no_value _ _ r gone;
+      within = no_value _ _ r gone;
+      early = no_value _ _ r gone;
+      rows = no_value _ _ r gone;
+      unplanned = no_value _ _ r gone;
+      stands = no_value _ _ r gone;
+      bound = no_value _ _ r gone;
+      over = no_value _ _ r gone;
+      refused = λ f told. let clash : None ≡ Some f = sym none ∙ told in absurd cc;
+      causes = of_error (AppendCauses s values) r OutOfMemory gone (inr (inr refl));
+      fault = λ told. let clash : OutOfMemory ≡ Failed = told_error r OutOfMemory Failed gone told in absurd cc;
+      kept = on_err r (ap (λ (bs : List ℕ). record (session_of c.self.inside) { waiting = bs }) c.in_err-put.ensures.kept ∙ c.self.view_is);
+      image = same_itself (g.W.PieceRead.view c.args.image.now);
+      room = no_value _ _ r gone;
+    }
+
+pub returns-in-Ok : goal.returns-in-Ok
+returns-in-Ok g c =
+    let s = c.args.self.now in
+    let values = c.args.values.now in
+    let t = c.write_early.new.self in
     let by = accepted s values (Ok tt) c.in_ok-check.ensures refl in
+    let none = none_refused (append_refusal s values) (Ok tt) c.in_ok-check.ensures refl in
     let is = subst IsSession c.self.view_is c.self.invariant.0 in
     let same = with_values_is _ s values c.put.new.self c.self.view_is c.in_ok-put.ensures.added in
-    let written : WrittenEarly (with_values s values) c.write_early.new.self = subst (λ (y : Session). WrittenEarly y c.write_early.new.self) same c.in-Ok.ensures.written in
-    adds_unplanned s values c.write_early.new.self is by.idle (adds_values s values c.write_early.new.self written)
+    let written : WrittenEarly (with_values s values) t = subst (λ (y : Session). WrittenEarly y t) same c.in-Ok.ensures.written in
+    let typed : IsIntType s.dataset.int_type = subst (λ (y : Session). IsIntType y.dataset.int_type) c.self.view_is c.self.invariant.1.typed in
+    let over : t.pending ≢ [] → (s.budget < dirty_of (with_values s values)) × (length s.header ≤ 512) = subst (λ (y : Session). t.pending ≢ [] → (y.budget < dirty_of y) × (length y.header ≤ 512)) same c.in-Ok.ensures.early in
+    record {
+      added = adds_values s values t written;
+      written = written;
+      within = c.in-Ok.ensures.within;
+      early = λ some. (over some).0;
+      rows = c.rows.ensures.value;
+      unplanned = adds_unplanned s values t is by.idle (adds_values s values t written);
+      stands = λ log stands. append_stands s values log is c.requires.rows by stands t typed c.in-Ok.ensures.ends written;
+      bound = λ log stands. append_few s values log is c.requires.rows by stands t written;
+      over = λ some log stands. let o = over some in append_over s values log is c.requires.rows by stands o.0 o.1;
+      refused = λ f told. let clash : None ≡ Some f = sym none ∙ told in absurd cc;
+      causes = tt;
+      fault = λ told. absurd cc;
+      kept = tt;
+      image = c.write_early.ensures.image;
+      room = c.in-Ok.ensures.room;
+    }
 
-pub returns-in-Ok-clause-stands : goal.returns-in-Ok-clause-stands
-returns-in-Ok-clause-stands g c log stands =
+pub returns-in-Err : goal.returns-in-Err
+returns-in-Err g c =
     let s = c.args.self.now in
     let values = c.args.values.now in
-    let by = accepted s values (Ok tt) c.in_ok-check.ensures refl in
-    let is = subst IsSession c.self.view_is c.self.invariant.0 in
-    let same = with_values_is _ s values c.put.new.self c.self.view_is c.in_ok-put.ensures.added in
-    let written : WrittenEarly (with_values s values) c.write_early.new.self = subst (λ (y : Session). WrittenEarly y c.write_early.new.self) same c.in-Ok.ensures.written in
-    let typed : IsIntType s.dataset.int_type = subst (λ (t : Session). IsIntType t.dataset.int_type) c.self.view_is c.self.invariant.1.typed in
-    append_stands s values log is c.requires.rows by stands c.write_early.new.self typed c.in-Ok.ensures.ends written
-
-pub returns-in-Ok-clause-bound : goal.returns-in-Ok-clause-bound
-returns-in-Ok-clause-bound g c log stands =
-    let s = c.args.self.now in
-    let values = c.args.values.now in
-    let by = accepted s values (Ok tt) c.in_ok-check.ensures refl in
-    let is = subst IsSession c.self.view_is c.self.invariant.0 in
-    let same = with_values_is _ s values c.put.new.self c.self.view_is c.in_ok-put.ensures.added in
-    let written : WrittenEarly (with_values s values) c.write_early.new.self = subst (λ (y : Session). WrittenEarly y c.write_early.new.self) same c.in-Ok.ensures.written in
-    append_few s values log is c.requires.rows by stands c.write_early.new.self written
-
-pub returns-in-Ok-clause-over : goal.returns-in-Ok-clause-over
-returns-in-Ok-clause-over g c some log stands =
-    let s = c.args.self.now in
-    let values = c.args.values.now in
-    let by = accepted s values (Ok tt) c.in_ok-check.ensures refl in
-    let is = subst IsSession c.self.view_is c.self.invariant.0 in
-    let same = with_values_is _ s values c.put.new.self c.self.view_is c.in_ok-put.ensures.added in
-    let over = subst (λ (y : Session). (y.budget < dirty_of y) × (length y.header ≤ 512)) same (c.in-Ok.ensures.early some) in
-    append_over s values log is c.requires.rows by stands over.0 over.1
+    let v = session_of c.self.inside in
+    let u = session_of c.self-2.inside in
+    let f = c.in-Err.e in
+    let e = c.from.result in
+    let none = none_refused (append_refusal s values) (Ok tt) c.in_ok-check.ensures refl in
+    let long : c.len-bytes.result ≡ length c.self.inside.backlog.waiting = c.len-bytes.ensures in
+    let back = taken_back u v _ c.put.new.self c.truncate.new.self (length values / c.self.inside.grid.shape.cols) (c.self-2.view_is ∙ c.in-Err.ensures.kept) c.in_ok-put.ensures.added (c.truncate.ensures ∙ ap (λ (n : ℕ). take n c.self-2.inside.backlog.waiting) long) in
+    record {
+      added = tt;
+      written = tt;
+      within = tt;
+      early = tt;
+      rows = tt;
+      unplanned = tt;
+      stands = tt;
+      bound = tt;
+      over = tt;
+      refused = λ x told. let clash : None ≡ Some x = sym none ∙ told in absurd cc;
+      causes = fault_causes s values f e c.from.ensures;
+      fault = λ told. c.in-Err.ensures.fault (ap (λ x. Err x) (fault_failed f (let same : e ≡ Failed = cc in sym c.from.ensures ∙ same)));
+      kept = back ∙ c.self.view_is;
+      image = c.write_early.ensures.image;
+      room = tt;
+    }

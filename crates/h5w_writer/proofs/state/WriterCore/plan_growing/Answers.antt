@@ -12,58 +12,28 @@ use Rattle.h5w_chunks.specs.declared.grid.ChunkPlace.{ChunkPlace}
 use Rattle.h5w_index.specs.Full.{IsFullPart}
 use Rattle.h5w_index.specs.Placing.{AreInside, IsPartly}
 use Rattle.h5w_index.specs.Views.{HasSlot}
+use Rattle.h5w_writer.specs.ChunkPlaces.{CanPrepare}
 use Rattle.h5w_writer.specs.Refusals.{IsDeepPart}
 use Rattle.h5w_writer.specs.Sessions.{ArePieces, IsRoomy, IsSession, IsWhole, Session, most_lines, next_row, rows_of}
 use Rattle.h5w_writer.specs.Halves.{IsReady, PlansGrowth, grown_of}
 use Rattle.h5w_writer.specs.declared.planned.Growing.{Growing}
 use Rattle.h5w_writer.proofs.SessionFields.{session_of}
-use Rattle.h5w_writer.proofs.CarriedLemmas.{asks_for, refused_is, refused_same, same_error, values_few}
+use Rattle.h5w_writer.proofs.CarriedLemmas.{asks_for, can_prepare, refused_is, refused_same, same_error}
 use Rattle.h5w_writer.proofs.HalfLemmas.{after_growth, grown_is, grown_now, grown_pieces, ready_of}
 use Rattle.h5w_writer.proofs.state.WriterCore.plan_growing.Goals as goal
 
-pub prepare-requires-clause-few : goal.prepare-requires-clause-few
-prepare-requires-clause-few c =
+pub prepare-requires-clause-can : goal.prepare-requires-clause-can
+prepare-requires-clause-can c =
     let i = c.self.inside in
     let v = session_of i in
     let is : IsSession v = c.self.invariant.0 in
-    let to = c.rows-to.result in
-    let to_is : to ≡ rows_of v = c.rows-to.ensures.value ∙ ap rows_of (sym c.self.view_is) in
-    (asks_for v to is to_is).lines
-
-pub prepare-requires-clause-takes : goal.prepare-requires-clause-takes
-prepare-requires-clause-takes c =
-    let i = c.self.inside in
-    let v = session_of i in
-    let is : IsSession v = c.self.invariant.0 in
-    let to = c.rows-to.result in
-    let to_is : to ≡ rows_of v = c.rows-to.ensures.value ∙ ap rows_of (sym c.self.view_is) in
-    (asks_for v to is to_is).takes
-
-pub prepare-requires-clause-room : goal.prepare-requires-clause-room
-prepare-requires-clause-room c =
-    let i = c.self.inside in
-    let v = session_of i in
-    let is : IsSession v = c.self.invariant.0 in
-    let to = c.rows-to.result in
-    let to_is : to ≡ rows_of v = c.rows-to.ensures.value ∙ ap rows_of (sym c.self.view_is) in
-    let few : i.backlog.waits * i.grid.shape.cols < 2 ^ 64 = values_few v is (is_cut i.grid c.self.invariant.1) in
-    let less : to - i.grid.shape.rows ≡ i.backlog.waits = omega (arith, to_is) in
-    subst (λ (n : ℕ). n * i.grid.shape.cols < 2 ^ 64) (sym less) few
-
-pub prepare-requires-clause-inside : goal.prepare-requires-clause-inside
-prepare-requires-clause-inside c =
-    let v = session_of c.self.inside in
-    let places_are : c.args.taking.places ≡ v.places = c.requires.places ∙ ap (λ (s : Session). s.places) (sym c.self.view_is) in
-    subst (λ (s : Space). AreInside v.dataset s.end v.index) (sym places_are) c.self.invariant.0.inside
-
-pub prepare-requires-clause-placed : goal.prepare-requires-clause-placed
-prepare-requires-clause-placed c k p at = c.self.invariant.0.placed k p (subst (λ (ps : List ChunkPlace). slice_get ps k ≡ Some p) c.deref.ensures.value at)
-
-pub prepare-requires-clause-ends : goal.prepare-requires-clause-ends
-prepare-requires-clause-ends c k p at =
-    let v = session_of c.self.inside in
-    let end : c.args.taking.places.end ≡ v.places.end = ap (λ (s : Space). s.end) (c.requires.places ∙ ap (λ (s : Session). s.places) (sym c.self.view_is)) in
-    omega (arith, end, c.self.invariant.0.ends k p (subst (λ (ps : List ChunkPlace). slice_get ps k ≡ Some p) c.deref.ensures.value at))
+    let back = sym c.self.view_is in
+    let places_are : c.args.taking.places ≡ v.places = c.requires.places ∙ ap (λ (s : Session). s.places) back in
+    let to_is : c.rows-to.result ≡ rows_of v = c.rows-to.ensures.value ∙ ap rows_of back in
+    let waits : 0 < v.waits = subst (λ (s : Session). 0 < s.waits) back c.requires.waits in
+    let own = can_prepare v is (is_cut i.grid c.self.invariant.1) waits v.index c.next_row-mid.result c.rows-to.result c.as_slice.result.now c.deref.result.now v.places (c.next_row-mid.ensures.exact ∙ ap next_row back) to_is c.as_slice.ensures c.deref.ensures.value
+    is.sound is.fits (asks_for v c.rows-to.result is to_is).takes is.inside is.small is.limit is.placed is.ends in
+    subst (λ (s : Space). CanPrepare v.dataset v.index c.next_row-mid.result c.rows-to.result c.as_slice.result.now c.deref.result.now s) (sym places_are) own
 
 -- what the code shows of the flush
 ready_by : (c : goal.After-drop-taking) → IsReady (session_of c.self.inside) (view_of c.self.inside.index) c.self.inside.places c.in-Ok.prepared c.prepare.new.taking.added.items (view_of c.prepare.new.index) c.replace-before.new.dest
@@ -72,16 +42,7 @@ ready_by c =
     let back = sym c.self.view_is in
     let places_are : c.args.taking.places ≡ v.places = c.requires.places ∙ ap (λ (s : Session). s.places) back in
     let own = ready_of v v.index v.places c.next_row-mid.result c.rows-to.result c.as_slice.result.now c.deref.result.now c.args.taking.places c.in-Ok.prepared c.prepare.new.taking.chunks.items c.prepare.new.taking.added.items
-    (view_of c.prepare.new.index) c.prepare.new.taking.places (c.next_row-mid.ensures.exact ∙ ap next_row back) (c.rows-to.ensures.value ∙ ap rows_of back) c.as_slice.ensures c.deref.ensures.value places_are (record {
-      prepared = c.in-Ok.ensures.prepared;
-      all = c.in-Ok.ensures.all;
-      exact = c.in-Ok.ensures.exact;
-      written = c.in-Ok.ensures.does;
-      roomy = c.prepare.ensures.roomy;
-      after = c.in-Ok.ensures.after;
-      room = c.in-Ok.ensures.room;
-      end = c.in-Ok.ensures.end;
-    }) in
+    (view_of c.prepare.new.index) c.prepare.new.taking.places (c.next_row-mid.ensures.exact ∙ ap next_row back) (c.rows-to.ensures.value ∙ ap rows_of back) c.as_slice.ensures c.deref.ensures.value places_are c.prepare.ensures.roomy c.in-Ok.ensures.prepared in
     subst (λ (t : Space). IsReady v v.index v.places c.in-Ok.prepared c.prepare.new.taking.added.items (view_of c.prepare.new.index) t) (sym c.replace-before.ensures.after) own
 
 -- what the session is then

@@ -8,7 +8,7 @@ use Rattle.h5w_chunks.specs.declared.grid.ChunkPlace.{ChunkPlace}
 use Rattle.h5w_index.specs.Held.{view_of}
 use Rattle.h5w_writer.specs.Sessions.{IsSession, IsUnmade, Session, most_lines, next_row, rows_of}
 use Rattle.h5w_writer.proofs.SessionFields.{session_of}
-use Rattle.h5w_writer.proofs.CarriedLemmas.{asks_for, same_error, values_few}
+use Rattle.h5w_writer.proofs.CarriedLemmas.{can_prepare, same_error}
 use Rattle.h5w_writer.proofs.StartCarriedLemmas.{AsksOfMade, asks_of_made, asks_of_start, start_unfilled, start_unplaced}
 use Rattle.h5w_space.specs.Space.{Space}
 use Rattle.h5w_index.specs.Views.{IndexView}
@@ -40,15 +40,6 @@ start_index-requires-clause-tree c =
     let v = session_of i in
     (asks_of_start v c.args.taking.places c.self.invariant.0 (subst IsUnmade (sym c.self.view_is) c.requires.unmade) (c.requires.places ∙ ap (λ (s : Session). s.places) (sym c.self.view_is))).tree
 
-pub prepare-requires-clause-few : goal.prepare-requires-clause-few
-prepare-requires-clause-few c =
-    let i = c.self.inside in
-    let v = session_of i in
-    let is : IsSession v = c.self.invariant.0 in
-    let to = c.rows-to.result in
-    let to_is : to ≡ rows_of v = c.rows-to.ensures.value ∙ ap rows_of (sym c.self.view_is) in
-    (asks_for v to is to_is).lines
-
 -- what the places of the flush ask for, of the index that is made
 asks_by : (c : goal.After-index-2-1) → AsksOfMade (session_of c.self.inside) c.rows-to.result (view_of c.in_ok-index.index) c.start_index.new.places
 asks_by c =
@@ -57,40 +48,23 @@ asks_by c =
     asks_of_made v c.rows-to.result c.args.taking.places c.in_ok-index.at (view_of c.in_ok-index.index) c.start_index.new.places c.self.invariant.0 (subst IsUnmade (sym c.self.view_is) c.requires.unmade) to_is
     (c.requires.places ∙ ap (λ (s : Session). s.places) (sym c.self.view_is)) c.in_ok-index.ensures.kind c.in_ok-index.ensures.started
 
-pub prepare-requires-clause-takes : goal.prepare-requires-clause-takes
-prepare-requires-clause-takes c = (asks_by c).takes
-
-pub prepare-requires-clause-fits : goal.prepare-requires-clause-fits
-prepare-requires-clause-fits c = (asks_by c).fits
-
-pub prepare-requires-clause-inside : goal.prepare-requires-clause-inside
-prepare-requires-clause-inside c = (asks_by c).inside
-
-pub prepare-requires-clause-limit : goal.prepare-requires-clause-limit
-prepare-requires-clause-limit c = (asks_by c).limit
-
-pub prepare-requires-clause-placed : goal.prepare-requires-clause-placed
-prepare-requires-clause-placed c k p here = (asks_by c).placed k p (subst (λ (ps : List ChunkPlace). slice_get ps k ≡ Some p) c.deref.ensures.value here)
-
-pub prepare-requires-clause-ends : goal.prepare-requires-clause-ends
-prepare-requires-clause-ends c k p here = (asks_by c).ends k p (subst (λ (ps : List ChunkPlace). slice_get ps k ≡ Some p) c.deref.ensures.value here)
+pub prepare-requires-clause-can : goal.prepare-requires-clause-can
+prepare-requires-clause-can c =
+    let i = c.self.inside in
+    let v = session_of i in
+    let is : IsSession v = c.self.invariant.0 in
+    let back = sym c.self.view_is in
+    let asks = asks_by c in
+    let to_is : c.rows-to.result ≡ rows_of v = c.rows-to.ensures.value ∙ ap rows_of back in
+    let waits : 0 < v.waits = subst (λ (s : Session). 0 < s.waits) back c.requires.waits in
+    can_prepare v is (is_cut i.grid c.self.invariant.1) waits (view_of c.in_ok-index.index) c.next_row-mid.result c.rows-to.result c.as_slice.result.now c.deref.result.now c.start_index.new.places (c.next_row-mid.ensures.exact ∙ ap next_row back) to_is
+    c.as_slice.ensures c.deref.ensures.value asks.sound asks.fits asks.takes asks.inside asks.small asks.limit asks.placed asks.ends
 
 pub returns-in-Err-clause-causes : goal.returns-in-Err-clause-causes
 returns-in-Err-clause-causes c =
     let d = dataset_of c.self.inside.grid in
     let e = c.in-Err.e in
     shallow_causes {T = Starting} e (Err e) refl c.in-Err.ensures.causes (λ deep. (c.in-Err.ensures.deep (ap Err deep)).cramped (c.in_ok-index.ensures.within (most_lines d) (keys_across d)))
-
-pub prepare-requires-clause-room : goal.prepare-requires-clause-room
-prepare-requires-clause-room c =
-    let i = c.self.inside in
-    let v = session_of i in
-    let is : IsSession v = c.self.invariant.0 in
-    let to = c.rows-to.result in
-    let to_is : to ≡ rows_of v = c.rows-to.ensures.value ∙ ap rows_of (sym c.self.view_is) in
-    let few : i.backlog.waits * i.grid.shape.cols < 2 ^ 64 = values_few v is (is_cut i.grid c.self.invariant.1) in
-    let less : to - i.grid.shape.rows ≡ i.backlog.waits = omega (arith, to_is) in
-    subst (λ (n : ℕ). n * i.grid.shape.cols < 2 ^ 64) (sym less) few
 
 pub returns-in-Err-clause-full : goal.returns-in-Err-clause-full
 returns-in-Err-clause-full c full told =
@@ -121,15 +95,6 @@ returns-in-Ok-clause-start c =
       ready =
           ready_of v made c.start_index.new.places c.next_row-mid.result c.rows-to.result c.as_slice.result.now c.deref.result.now c.start_index.new.places c.in-Ok.prepared c.prepare.new.taking.chunks.items
           c.prepare.new.taking.added.items (view_of c.prepare.new.index) c.prepare.new.taking.places (c.next_row-mid.ensures.exact ∙ ap next_row back) (c.rows-to.ensures.value ∙ ap rows_of back) c.as_slice.ensures
-          c.deref.ensures.value refl (record {
-            prepared = c.in-Ok.ensures.prepared;
-            all = c.in-Ok.ensures.all;
-            exact = c.in-Ok.ensures.exact;
-            written = c.in-Ok.ensures.does;
-            roomy = c.prepare.ensures.roomy;
-            after = c.in-Ok.ensures.after;
-            room = c.in-Ok.ensures.room;
-            end = c.in-Ok.ensures.end;
-          });
+          c.deref.ensures.value refl c.prepare.ensures.roomy c.in-Ok.ensures.prepared;
     } in
     subst (λ (s : Session). PlansStart s p) c.self.view_is own
