@@ -16,15 +16,20 @@ pub struct Spot {
     pub len: usize,
 }
 
+/// A list that has to make room makes it for so many more pieces at least.
+const MORE: u64 = 256;
+
 /// A list of pieces, the oldest first. A piece takes as many bytes as it has, and its spot. The memory stays where the pieces are let go.
 #[derive(Drop)]
 pub struct Pieces {
     spots: Vec<Spot>,
     bytes: Vec<u8>,
+    /// There is room for so many more at least.
+    ahead: u64,
 }
 
 impl Model for Pieces {
-    ghost use Rattle.std.specs.Prelude.{◌-◌, ◌/◌, min, map, vec_len};
+    ghost use Rattle.std.specs.Prelude.{◌≤◌, ◌-◌, ◌/◌, min, map, vec_len};
     ghost use Rattle.std.specs.Vec.{vec_capacity};
     ghost use Rattle.h5w_image.specs.Journals.{AreAmong, write_of};
     ghost use Rattle.h5w_image.specs.Memory.{JournalView};
@@ -34,7 +39,7 @@ impl Model for Pieces {
 
     ghost view = { λ p. record { writes = map (write_of p.bytes.items) (map entry_of p.spots.items); room = min (vec_capacity p.spots - vec_len p.spots) ((vec_capacity p.bytes - vec_len p.bytes) / 512) } };
 
-    ghost invariant = { λ p. AreAmong p.bytes.items (map entry_of p.spots.items) };
+    ghost invariant = { λ p. AreAmong p.bytes.items (map entry_of p.spots.items) × (p.ahead ≤ min (vec_capacity p.spots - vec_len p.spots) ((vec_capacity p.bytes - vec_len p.bytes) / 512)) };
 }
 
 /// So many bytes from a place on.
@@ -53,6 +58,7 @@ impl Pieces {
         Pieces {
             spots: Vec::new(alloc),
             bytes: Vec::new(alloc),
+            ahead: 0,
         }
     }
 
@@ -71,11 +77,16 @@ impl Pieces {
         ensures room { OnOk result (pieces ≤ self.new.room) }
         ensures kept { self.old.room ≤ self.new.room }
     {
-        let Some(bytes) = (pieces as usize).checked_mul(PIECE) else {
+        if pieces <= self.ahead {
+            return Ok(());
+        }
+        let more = pieces.max(MORE);
+        let Some(bytes) = (more as usize).checked_mul(PIECE) else {
             return Err(OutOfMemory);
         };
-        self.spots.reserve(pieces as usize)?;
+        self.spots.reserve(more as usize)?;
         self.bytes.reserve(bytes)?;
+        self.ahead = more;
         Ok(())
     }
 
@@ -93,6 +104,7 @@ impl Pieces {
         };
         self.bytes.extend_from_slice(piece).unwrap();
         self.spots.push_reserved(spot);
+        self.ahead = self.ahead.saturating_sub(1);
     }
 
     /// How many pieces there are.

@@ -12,7 +12,7 @@ pub part-requires : goal.part-requires
 part-requires c =
     let s = c.in-Some.spot.now in
     let at = spot_at c.deref.result.now c.self.inside.spots.items c.args.k s c.deref.ensures.value c.in-Some.ensures.lookup.3.0 c.in-Some.ensures.lookup.1 in
-    subst (λ (bytes : List ℕ). s.from + s.len ≤ length bytes) (sym c.deref-in-Some.ensures.value) (among_at c.self.inside.bytes.items (map entry_of c.self.inside.spots.items) c.args.k (entry_of s) c.self.invariant at)
+    subst (λ (bytes : List ℕ). s.from + s.len ≤ length bytes) (sym c.deref-in-Some.ensures.value) (among_at c.self.inside.bytes.items (map entry_of c.self.inside.spots.items) c.args.k (entry_of s) c.self.invariant.0 at)
 
 pub returns-in-Some : goal.returns-in-Some
 returns-in-Some c =
