@@ -1,5 +1,5 @@
 -- The input of an append, to its end or to a refusal.
-use Rattle.std.proofs.Common.{◌≡◌, ℕ, ◌+◌, ◌≤◌, List, [], ◌∷◌, ◌++◌, length, ℤ, Option, Some, None, Result, Ok, Err, refl, sym, ap, ◌∙◌, subst, inl, inr, arith, rules, true, false, append_assoc, append-nil}
+use Rattle.std.proofs.Common.{◌≡◌, ◌⊎◌, ℕ, ◌+◌, ◌<◌, ◌≤◌, Bool, List, [], ◌∷◌, ◌++◌, length, ℤ, Option, Some, None, Result, Ok, Err, refl, sym, ap, ◌∙◌, subst, inl, inr, arith, rules, true, false, append_assoc, append-nil}
 use Rattle.std.specs.Prelude.{IfSome}
 use Rattle.h5w_model.specs.Causes.{Rose}
 use Rattle.h5w_model.specs.Datasets.{Described}
@@ -19,12 +19,12 @@ use Rattle.h5w_batches.specs.Reads.{error_of}
 use Rattle.h5w_files.specs.Images.{LeavesFiles}
 use Rattle.h5w_appending.specs.Taken.{AreTaken, ReadsFirst, ReadsLine, of_all, of_first}
 use Rattle.h5w_appending.specs.Appends.{HasTaken, InputRefuses, Stored, columns_of}
-use Rattle.h5w_appending.specs.Appending.{BrokeTold, Closes, FlushRefused, HalfTold, IsBegun, IsReady, PutsAll, PutsBy, ReadyUnlessDisk, RunsOn, LineRefused, Steps, StepsOn, TakesInput, TakesAhead, TakesInputFrom, TakesInputOn, TakesLine, TakesSingles, Told, each_alone, ending_of}
+use Rattle.h5w_appending.specs.Appending.{BrokeTold, Closes, FlushRefused, HalfTold, HeldOn, HeldThen, IsBegun, IsReady, NextOn, PutsAll, PutsBy, ReadyUnlessDisk, RunsOn, LineRefused, Steps, StepsOn, TakesInput, TakesAhead, TakesInputFrom, TakesInputOn, TakesLine, TakesSingles, Told, each_alone, ending_of, is_last, is_line, is_none, is_refused, is_unread}
 use Rattle.h5w_appending.specs.declared.batching.Ending.{Ending}
 use Rattle.h5w_appending.specs.declared.batching.Ending.TheVariants as endings
 use Rattle.h5w_input.proofs.LineLemmas.{takes_numbers}
 use Rattle.h5w_batches.proofs.RowLemmas.{lines-append}
-use Rattle.h5w_batches.proofs.LineLemmas.{GoingWhole, first_all, first_none, first_read, reads_too_much, reads_whole, spell_count, spell_more, starts, whole_first, whole_more}
+use Rattle.h5w_batches.proofs.LineLemmas.{GoingWhole, first_all, first_last, first_none, first_read, first_whole, last_more, reads_all, reads_too_much, reads_whole, spell_count, spell_more, starts, whole_first, whole_more}
 use Rattle.h5w_batches.proofs.InputLemmas.{rose_before}
 use Rattle.h5w_files.proofs.SinkLemmas.{gave_nothing}
 use Rattle.h5w_appending.proofs.StepLemmas.{ready_put, ready_unput, told_unput}
@@ -406,3 +406,102 @@ taken_ahead {l = l} {x} {y} e z t n name s q r endings.Disk room h ahead = λ fi
           )
     ]
 taken_ahead e z t n name s q r endings.Sink room h ahead = absurd ahead
+
+-- ---- A line whose values were read, and those behind it
+
+pub held_by : {v w : DiskView} {k l : SinkView} {x y : LinesAhead} (n : ℕ) (name : List ℕ) (number : ℕ) (values : List ℤ) (s t : Session) (r : Result ℕ Ending) → HeldThen n name number values s t x y v w k l r → HeldOn n name number values s t x y v w k l r
+held_by n name number values s t (Ok count) h = h
+held_by n name number values s t (Err e) h = inr h
+
+ahead_ready : (v w : DiskView) (x y : LinesAhead) (n : ℕ) (name : List ℕ) (s t : Session) (e : Ending) → TakesAhead n name s t x y v w (Err e) → ReadyUnlessDisk name t w (Err e)
+ahead_ready v w x y n name s t (endings.Refused a) h = absurd h
+ahead_ready v w x y n name s t endings.Disk h = tt
+ahead_ready v w x y n name s t endings.Sink h = absurd h
+
+pub held_ready : {v w : DiskView} {k l : SinkView} {x y : LinesAhead} (n : ℕ) (name : List ℕ) (number : ℕ) (values : List ℤ) (s t : Session) (e : Ending) → HeldOn n name number values s t x y v w k l (Err e) → ReadyUnlessDisk name t w (Err e)
+held_ready n name number values s t e (inl h) = h.0
+held_ready {v} {w} {k} {l} {x} {y} n name number values s t e (inr h) = ahead_ready h.between w x y n name h.middle t e h.ahead
+
+pub held_room : {v w : DiskView} {k l : SinkView} {x y : LinesAhead} (count n : ℕ) (name : List ℕ) (number : ℕ) (values : List ℤ) (s t : Session) → HeldOn n name number values s t x y v w k l (Ok count) → y.room ≤ x.room
+held_room {x = x} {y = y} count n name number values s t h = ahead_room count n name h.middle t x y h.ahead
+
+pub taking_both : {v w z : DiskView} {k l o : SinkView} {x y e f : LinesAhead} {number count : ℕ} (n : ℕ) (name : List ℕ) (s t r : Session) (values : List ℤ) → Taking n name s t x y number v w k l → TakesNumbers (columns_of t) values y e
+    → HeldOn n name (number + 1) values t r e f w z l o (Ok count) → Taking n name s r x f (number + 1 + count) v z k o
+taking_both n name s t r values taking h g = taking_ahead n name s g.middle r (taking_held n name s t g.middle values taking h (g.steps h.line h.spelled) g.ready g.columns) g.ahead
+
+-- one of them is refused, or a disk or a sink failed at it
+pub taken_held : {v w : DiskView} {k l : SinkView} {x y e f : LinesAhead} {number : ℕ} (z : DiskView) (o : SinkView) (t : SourceView) (n : ℕ) (name : List ℕ) (s q r : Session) (values : List ℤ) (ending : Ending) → x.room ≡ input_limit → Taking n name s q x y number v w k l
+    → TakesNumbers (columns_of q) values y e → HeldOn n name (number + 1) values q r e f w z l o (Err ending) → TakesInputOn n name s r (outside x) t v z k o (Err ending)
+taken_held z o t n name s q r values ending room taking h (inl g) = taken_line z o t n name s q r h.line ending room taking (first_whole h.line room taking.going h.given h.whole) (g.1 h.line h.spelled)
+taken_held {f = f} z o t n name s q r values ending room taking h (inr g) =
+    taken_ahead f z t n name s g.middle r ending room (taking_held n name s q g.middle values taking h (g.steps h.line h.spelled) g.ready g.columns) g.ahead
+
+-- ---- The next line
+
+-- the session can go on behind it, but where the disk failed
+abbrev pub ReadyNext : List ℕ → Session → DiskView → Result Bool Ending → Type 0
+ReadyNext name t w (Ok b) = IsReady name t w
+ReadyNext name t w (Err e) = ReadyUnlessDisk name t w (Err e)
+
+same_ready : (name : List ℕ) (s t : Session) (v w : DiskView) → t ≡ s → w ≡ v → IsReady name s v → IsReady name t w
+same_ready name s t v w session disk ready = subst (λ (q : Session). IsReady name q w) (sym session) (subst (λ (z : DiskView). IsReady name s z) (sym disk) ready)
+
+pub next_ready : {v w : DiskView} {k l : SinkView} {x : LinesAhead} {y : SourceView} {j : IntakeView} (n : ℕ) (name : List ℕ) (number : ℕ) (s t : Session) (r : Result Bool Ending) → IsReady name s v → NextOn n name number s t x y j v w k l r → ReadyNext name t w r
+next_ready {v} {w} n name number s t r ready (is_unread e h) = ready_source name t e (same_ready name s t v w h.session h.disk ready)
+next_ready n name number s t r ready (is_refused line e given whole steps now) = now
+next_ready n name number s t r ready (is_line line h whole) = h.ready
+next_ready n name number s t r ready (is_last line h none) = h.ready
+next_ready {v} {w} n name number s t r ready (is_none ended session disk sink) = same_ready name s t v w session disk ready
+
+-- the whole input was read and taken
+pub record Reached (n : ℕ) (name : List ℕ) (s t : Session) (x : LinesAhead) (y : SourceView) (v w : DiskView) (k l : SinkView) : Type 0 where
+  pub numbers : List (List ℤ)
+  pub read : ReadsAll (columns_of s) (outside x) y numbers
+  pub done : DoneOn n name s t numbers v w k l
+
+-- what was taken with it, by its result
+abbrev pub GoesOn : ℕ → List ℕ → Session → Session → LinesAhead → SourceView → IntakeView → ℕ → DiskView → DiskView → SinkView → SinkView → Result Bool Ending → Type 0
+GoesOn n name s t x y j number v w k l (Ok true) = Taking n name s t x (lines_ahead y j) number v w k l
+GoesOn n name s t x y j number v w k l (Ok false) = Reached n name s t x y v w k l
+GoesOn n name s t x y j number v w k l (Err e) = TakesInputOn n name s t (outside x) y v w k l (Err e)
+
+refused_next : {x e z : LinesAhead} {number : ℕ} {numbers : List (List ℤ)} (columns : ℕ) (line : List ℕ) → x.room ≡ input_limit → (h : GoingWhole columns x e number numbers) → Given line e z → IsWhole line e z ⊎ IfSome z.left (λ left. left ≡ [])
+    → IfSome x.left (AreFirst (h.going.lines ++ line ∷ []))
+refused_next columns line room h given (inl whole) = first_whole line room h given whole
+refused_next columns line room h given (inr none) = first_last line room h.going given none
+
+done_same : {v w z : DiskView} {k l o : SinkView} (n : ℕ) (name : List ℕ) (s q t : Session) (numbers : List (List ℤ)) → t ≡ q → z ≡ w → o ≡ l → DoneOn n name s q numbers v w k l → DoneOn n name s t numbers v z k o
+done_same {v} {w} {z} {k} {l} {o} n name s q t numbers session disk sink done =
+    subst (λ (r : Session). DoneOn n name s r numbers v z k o) (sym session)
+    (subst (λ (d : DiskView). DoneOn n name s q numbers v d k o) (sym disk) (subst (λ (m : SinkView). DoneOn n name s q numbers v w k m) (sym sink) done))
+
+input_same : {v w z : DiskView} {k l o : SinkView} (n : ℕ) (name : List ℕ) (s q t : Session) (x y : SourceView) (r : Result (Unit {0}) Ending) → t ≡ q → z ≡ w → o ≡ l → TakesInputOn n name s q x y v w k l r → TakesInputOn n name s t x y v z k o r
+input_same {v} {w} {z} {k} {l} {o} n name s q t x y r session disk sink takes =
+    subst (λ (p : Session). TakesInputOn n name s p x y v z k o r) (sym session)
+    (subst (λ (d : DiskView). TakesInputOn n name s q x y v d k o r) (sym disk) (subst (λ (m : SinkView). TakesInputOn n name s q x y v w k m r) (sym sink) takes))
+
+pub goes_on : {v w z : DiskView} {k l o : SinkView} {x y : LinesAhead} {number : ℕ} (t : SourceView) (j : IntakeView) (n : ℕ) (name : List ℕ) (s q r : Session) (res : Result Bool Ending) → x.room ≡ input_limit → x.limit ≡ input_limit → Taking n name s q x y number v w k l → Stays y (lines_ahead t j)
+    → NextOn n name (number + 1) q r y t j w z l o res → GoesOn n name s r x t j (number + 1) v z k o res
+goes_on {v} {w} {z} {k} {l} {o} {x} {y} t j n name s q r res room limited taking stays (is_unread e h) =
+    input_same n name s q r (outside x) t (Err (ending_of (error_of e))) h.session h.disk h.sink (taken_source t j n name s q e room limited taking stays h.rose h.up h.over)
+goes_on {v} {w} {z} {k} {l} {o} {x} {y} t j n name s q r res room limited taking stays (is_refused line e given whole steps now) =
+    taken_line z o t n name s q r line e room taking (refused_next (columns_of s) line room taking.going given whole) steps
+goes_on t j n name s q r res room limited taking stays (is_line line h whole) = taking_more n name s q r line h.values taking h.given whole h.spelled h.steps h.ready h.columns
+goes_on {number = number} t j n name s q r res room limited taking stays (is_last line h none) =
+    let spelled = subst (λ c. number_line_of c line ≡ Some h.values) taking.columns h.spelled in
+    let going = last_more line h.values taking.going.going h.given h.given.passed spelled in
+    record {
+      numbers = taking.numbers ++ h.values ∷ [];
+      read = reads_all t j room going (record { before = none; now = none });
+      done = done_more n name s q r line (number + 1) h.values taking.numbers taking.columns taking.done h.spelled h.steps;
+    }
+goes_on t j n name s q r res room limited taking stays (is_none ended session disk sink) = record {
+  numbers = taking.numbers;
+  read = reads_all t j room taking.going.going ended;
+  done = done_same n name s q r taking.numbers session disk sink taking.done;
+}
+
+pub next_room : {v w : DiskView} {k l : SinkView} {x : LinesAhead} {y : SourceView} {j : IntakeView} (n : ℕ) (name : List ℕ) (number : ℕ) (s t : Session) (b : Bool) → b ≡ true → NextOn n name number s t x y j v w k l (Ok b) → (lines_ahead y j).room < x.room
+next_room n name number s t b is (is_line line h whole) = h.given.room
+next_room n name number s t b is (is_last line h none) = h.given.room
+next_room n name number s t b is (is_none ended session disk sink) = absurd (cc)

@@ -11,15 +11,17 @@ use Rattle.h5w_writer.specs.Sessions.{AddsValues, Session, TakesRows, rows_of, s
 use Rattle.h5w_writer.specs.Stands.{Stands}
 use Rattle.h5w_writer.specs.declared.refusal.AppendError.TheVariants as append_errors
 use Rattle.h5w_several_open.specs.declared.beginning.Beginning.{Beginning}
-use Rattle.h5w_input.specs.LinesAhead.{LinesAhead, TakesNumbers}
+use Rattle.h5w_input.specs.LinesAhead.{Ended, Given, GivenUp, IntakeView, IsOver, IsWhole, LinesAhead, TakesNumbers, lines_ahead}
 use Rattle.h5w_input.specs.Scripts.{number_line_of}
+use Rattle.h5w_input.specs.declared.line.LineError.{LineError}
+use Rattle.h5w_input.specs.declared.line.LineError.TheVariants as line_errors
 use Rattle.h5w_text.specs.Streams.{SourceView, SinkView, Gave}
 use Rattle.h5w_text.specs.declared.error.ErrorLine.{ErrorLine}
 use Rattle.h5w_text.specs.declared.error.ErrorLine.TheVariants as errors
 use Rattle.h5w_files.specs.Images.{LeavesFiles}
 use Rattle.h5w_batches.specs.Batches.{Batches, after_line, after_lines, close_batch, no_batches}
 use Rattle.h5w_batches.specs.Inputs.{ReadsAll}
-use Rattle.h5w_batches.specs.Reads.{Takes}
+use Rattle.h5w_batches.specs.Reads.{Takes, error_of}
 use Rattle.h5w_batches.specs.declared.error.BatchError.{BatchError}
 use Rattle.h5w_batches.specs.declared.error.BatchError.TheVariants as batch_errors
 use Rattle.h5w_appending.specs.Taken.{AreTaken, closed_text, rows_after}
@@ -220,6 +222,58 @@ TakesAhead faults name s t x y v w (Err endings.Disk) =
     × ((first : Session) (b : Batches) (u : DiskView) (k m : SinkView) → u.faults ≡ faults → Told name first s b u v m k → (at : Batches) × IsEither (λ next. next ≡ after_lines b (each_alone values)) b at × BrokeTold name first at u w m k)
 TakesAhead faults name s t x y v w (Err endings.Sink) = ⊥
 
+-- The line of this number and of these values was taken, and then so many that stood next, or the disk failed at these.
+pub record HeldThen (faults : ℕ) (name : List ℕ) (number : ℕ) (values : List ℤ) (s t : Session) (x y : LinesAhead) (v w : DiskView) (k l : SinkView) (r : Result ℕ Ending) : Type 0 where
+  pub middle : Session
+  pub between : DiskView
+  pub steps : (line : List ℕ) → number_line_of (columns_of s) line ≡ Some values → StepsOn faults name s middle (TakesLine line) (LineRefused line number s) v between k l (Ok tt)
+  pub ready : IsReady name middle between
+  pub columns : columns_of middle ≡ columns_of s
+  pub ahead : TakesAhead faults name middle t x y between w r
+
+-- by the result: the line itself may be the one that is not taken
+abbrev pub HeldOn : ℕ → List ℕ → ℕ → List ℤ → Session → Session → LinesAhead → LinesAhead → DiskView → DiskView → SinkView → SinkView → Result ℕ Ending → Type 0
+HeldOn faults name number values s t x y v w k l (Ok n) = HeldThen faults name number values s t x y v w k l (Ok n)
+HeldOn faults name number values s t x y v w k l (Err e) =
+    (ReadyUnlessDisk name t w (Err e) × ((line : List ℕ) → number_line_of (columns_of s) line ≡ Some values → StepsOn faults name s t (TakesLine line) (LineRefused line number s) v w k l (Err e)))
+    ⊎ HeldThen faults name number values s t x y v w k l (Err e)
+
+-- ---- The next line
+
+-- the end of an append whose input was not read
+abbrev pub ending_of : BatchError → Ending
+ending_of (batch_errors.Line n) = endings.Refused (errors.Line n)
+ending_of (batch_errors.Input limit) = endings.Refused (errors.Input limit)
+ending_of batch_errors.Source = endings.Refused errors.Source
+ending_of batch_errors.OutOfMemory = endings.Refused errors.Memory
+
+-- It was not read: nothing is another but what was read of the source.
+pub record IsUnread (s t : Session) (x : LinesAhead) (y : SourceView) (j : IntakeView) (v w : DiskView) (k l : SinkView) (e : LineError) : Type 0 where
+  pub session : t ≡ s
+  pub disk : w ≡ v
+  pub sink : l ≡ k
+  pub rose : e ≡ line_errors.Failed → Rose x.faults y.faults
+  pub up : e ≡ line_errors.Failed → GivenUp x (lines_ahead y j) j.held
+  pub over : (limit : ℕ) → e ≡ line_errors.Input limit → (limit ≡ x.limit) × IsOver x
+
+-- It was taken, and it has values.
+pub record NextTaken (faults : ℕ) (name : List ℕ) (number : ℕ) (s t : Session) (x z : LinesAhead) (v w : DiskView) (k l : SinkView) (line : List ℕ) : Type 0 where
+  pub given : Given line x z
+  pub values : List ℤ
+  pub spelled : number_line_of (columns_of s) line ≡ Some values
+  pub steps : StepsOn faults name s t (TakesLine line) (LineRefused line number s) v w k l (Ok tt)
+  pub ready : IsReady name t w
+  pub columns : columns_of t ≡ columns_of s
+
+-- It is taken, by the result: whether more may stand behind it. None does behind the last one, or where there is none.
+pub data NextOn (faults : ℕ) (name : List ℕ) (number : ℕ) (s t : Session) (x : LinesAhead) (y : SourceView) (j : IntakeView) (v w : DiskView) (k l : SinkView) : Result Bool Ending → Type 0 where
+  is_unread : (e : LineError) → IsUnread s t x y j v w k l e → NextOn faults name number s t x y j v w k l (Err (ending_of (error_of e)))
+  is_refused : (line : List ℕ) (e : Ending) → Given line x (lines_ahead y j) → IsWhole line x (lines_ahead y j) ⊎ IfSome (lines_ahead y j).left (λ left. left ≡ [])
+      → StepsOn faults name s t (TakesLine line) (LineRefused line number s) v w k l (Err e) → ReadyUnlessDisk name t w (Err e) → NextOn faults name number s t x y j v w k l (Err e)
+  is_line : (line : List ℕ) → NextTaken faults name number s t x (lines_ahead y j) v w k l line → IsWhole line x (lines_ahead y j) → NextOn faults name number s t x y j v w k l (Ok true)
+  is_last : (line : List ℕ) → NextTaken faults name number s t x (lines_ahead y j) v w k l line → IfSome (lines_ahead y j).left (λ left. left ≡ []) → NextOn faults name number s t x y j v w k l (Ok false)
+  is_none : Ended x (lines_ahead y j) → t ≡ s → w ≡ v → l ≡ k → NextOn faults name number s t x y j v w k l (Ok false)
+
 -- ---- An input
 
 -- The lines of an input are appended by a session that has stored nothing yet, by their result.
@@ -237,13 +291,6 @@ TakesInputOn faults name s t x y v w k l r =
 -- of a session that has just begun, from each state of the disk on in which the file was as it is, and the disk had failed so often
 abbrev pub TakesInputFrom : ℕ → List ℕ → Session → Session → SourceView → SourceView → DiskView → DiskView → SinkView → SinkView → Result (Unit {0}) Ending → Type 0
 TakesInputFrom faults name s t x y v w k l r = (u : DiskView) → u.faults ≡ faults → LeavesFiles u.told u v → TakesInput name s t x y u w k l r
-
--- the end of an append whose input was not read
-abbrev pub ending_of : BatchError → Ending
-ending_of (batch_errors.Line n) = endings.Refused (errors.Line n)
-ending_of (batch_errors.Input limit) = endings.Refused (errors.Input limit)
-ending_of batch_errors.Source = endings.Refused errors.Source
-ending_of batch_errors.OutOfMemory = endings.Refused errors.Memory
 
 -- ---- A file
 

@@ -4,13 +4,14 @@ ghost use Rattle.h5w_model.specs.Logs.{Log};
 ghost use Rattle.h5w_image.specs.View.{IsThere};
 ghost use Rattle.h5w_writer.specs.Sessions.{rows_of};
 ghost use Rattle.h5w_writer.specs.Stands.{Stands};
-ghost use Rattle.h5w_input.specs.LinesAhead.{lines_ahead};
+ghost use Rattle.h5w_input.specs.LinesAhead.{Stays, lines_ahead};
 ghost use Rattle.h5w_files.specs.Images.{LeavesFiles};
+ghost use Rattle.h5w_batches.specs.Batches.{AreWholeRows};
 ghost use Rattle.h5w_batches.specs.Inputs.{SameSource, input_limit, outside};
 ghost use Rattle.h5w_appending.specs.Taken.{closed_text};
 ghost use Rattle.h5w_appending.specs.Appends.{AppendEnds, columns_of};
 ghost use Rattle.h5w_appending.specs.Tells.{TellsEnd};
-ghost use Rattle.h5w_appending.specs.Appending.{ClosesBy, FinishesBy, HasSize, IsBegun, IsReady, LooksOpen, OpensBy, ReadyUnlessDisk, SettlesOn, TakesAhead, TakesInputFrom, TakesInputOn};
+ghost use Rattle.h5w_appending.specs.Appending.{ClosesBy, FinishesBy, HasSize, HeldOn, IsBegun, IsReady, LooksOpen, NextOn, OpensBy, ReadyUnlessDisk, SettlesOn, TakesAhead, TakesInputFrom, TakesInputOn};
 
 use crate::batching::{Ending, close_batch, put_all, take_line, take_run, take_values};
 use crate::putting::close;
@@ -59,6 +60,58 @@ fn take_ahead<S: Source, D: Disk>(
     Ok(0)
 }
 
+/// Takes the line of this number, which was read and has these values, and those that stand next, as [`take_ahead`] does. Answers how many
+/// of these were taken.
+fn take_held<S: Source, K: Sink, D: Disk>(
+    session: &mut WriterCore,
+    lines: &mut Lines<'_, S>,
+    values: &mut Vec<i128>,
+    number: u64,
+    target: Target<'_>,
+    text: &mut Vec<u8>,
+    sink: &mut K,
+    disk: &mut D,
+) -> Result<u64, Ending>
+    requires ready { IsReady target.file.now session.old (D.view disk.old) }
+    requires rows { AreWholeRows (columns_of session.old) values.old.items }
+    ensures held { HeldOn target.entry.faults target.entry.file.now number values.old.items session.old session.new (lines_ahead (S.view lines.old.source.now) lines.old.intake.now) (lines_ahead (S.view lines.new.source.now) lines.new.intake.now) (D.view disk.old) (D.view disk.new) (K.view sink.old) (K.view sink.new) result }
+    ensures source { lines.new.source.now ≡ lines.old.source.now }
+    ensures same_reference { lines.new.source.ghost_name ≡ lines.old.source.ghost_name }
+    ensures same_intake { lines.new.intake.ghost_name ≡ lines.old.intake.ghost_name }
+{
+    take_values(session, values, number, target, text, sink, disk)?;
+    take_ahead(session, lines, target, values, disk)
+}
+
+/// Takes the next line, which has this number. Answers whether more may stand behind it.
+fn take_next<S: Source, K: Sink, D: Disk>(
+    session: &mut WriterCore,
+    lines: &mut Lines<'_, S>,
+    number: u64,
+    target: Target<'_>,
+    text: &mut Vec<u8>,
+    sink: &mut K,
+    disk: &mut D,
+) -> Result<bool, Ending>
+    requires { IsReady target.file.now session.old (D.view disk.old) }
+    ensures next { NextOn target.entry.faults target.entry.file.now number session.old session.new (lines_ahead (S.view lines.old.source.now) lines.old.intake.now) (S.view lines.new.source.now) lines.new.intake.now (D.view disk.old) (D.view disk.new) (K.view sink.old) (K.view sink.new) result }
+    ensures stays { Stays (lines_ahead (S.view lines.old.source.now) lines.old.intake.now) (lines_ahead (S.view lines.new.source.now) lines.new.intake.now) }
+    ensures same_reference { lines.new.source.ghost_name ≡ lines.old.source.ghost_name }
+    ensures same_intake { lines.new.intake.ghost_name ≡ lines.old.intake.ghost_name }
+{
+    match lines.next()? {
+        Next::Line(line) => {
+            take_line(session, &line, number, target, text, sink, disk)?;
+            Ok(true)
+        }
+        Next::Last(line) => {
+            take_line(session, &line, number, target, text, sink, disk)?;
+            Ok(false)
+        }
+        Next::End => Ok(false),
+    }
+}
+
 /// Appends the lines of an input, one after another, to its end, which closes the last batch.
 fn take_lines<S: Source, K: Sink, D: Disk>(
     session: &mut WriterCore,
@@ -82,22 +135,22 @@ fn take_lines<S: Source, K: Sink, D: Disk>(
     let mut values = Vec::new(target.alloc);
     let mut number = 0;
     loop {
+        number += 1;
         if lines.take_numbers(columns, &mut values) {
-            number += 1;
-            take_values(session, &values, number, target, text, sink, disk)?;
-            number += take_ahead(session, lines, target, &mut values, disk)?;
+            number += take_held(
+                session,
+                lines,
+                &mut values,
+                number,
+                target,
+                text,
+                sink,
+                disk,
+            )?;
+        } else if take_next(session, lines, number, target, text, sink, disk)? {
             continue;
-        }
-        match lines.next()? {
-            Next::Line(line) => {
-                number += 1;
-                take_line(session, &line, number, target, text, sink, disk)?;
-            }
-            Next::Last(line) => {
-                take_line(session, &line, number + 1, target, text, sink, disk)?;
-                return close_batch(session, target, text, sink, disk);
-            }
-            Next::End => return close_batch(session, target, text, sink, disk),
+        } else {
+            return close_batch(session, target, text, sink, disk);
         }
     }
 }

@@ -19,13 +19,13 @@ use Rattle.h5w_several_open.specs.declared.beginning.Beginning.{Beginning}
 use Rattle.h5w_several_appending.specs.Appending.{BeginsNone, Finishes, FinishesBy, IsOpenOver, Settles, SettlesOn, TakesInput}
 use Rattle.h5w_several_appending.specs.Stores.{Broke, ClosedUp, datasets_of}
 use Rattle.h5w_several_appending.specs.Taken.{SetBatches, closed_line, told_text}
-use Rattle.h5w_several_appending.specs.Tells.{IsBroken, IsClosed, SeveralTells, Unopened, all_batches, of_memory}
+use Rattle.h5w_several_appending.specs.Tells.{IsBroken, IsClosed, SeveralEnds, Unopened, all_batches, of_memory}
 use Rattle.h5w_several_appending.specs.declared.batching.Ending.{Ending}
 use Rattle.h5w_several_appending.specs.declared.batching.Ending.TheVariants as endings
 use Rattle.h5w_several_appending.proofs.TellLemmas.{has_datasets, is_broken, is_closed, is_why}
 
 ends_done : {v w : DiskView} {k l m : SinkView} {x y : SourceView} {by : Beginning} (name : List ℕ) (names : List (List ℕ)) (limit : ℕ) (rows : List ℕ) (first : Sessions) (status : Status) (text : List ℕ) → limit ≤ 2 ^ 40 → IsOpenOver by name names limit v first → Settles name rows first x y v w k l (Ok tt)
-    → text ≡ closed_line rows → Said text statuses.Done status l m → SeveralTells by name names limit x y v w status k m
+    → text ≡ closed_line rows → Said text statuses.Done status l m → SeveralEnds by name names limit x y v w status k m
 ends_done {l = l} name names limit rows first status text high opened h is said =
     let ds = datasets_of first.parts in
     let b = all_batches ds h.0 in
@@ -48,7 +48,7 @@ ends_done {l = l} name names limit rows first status text high opened h is said 
     })
 
 ends_refused : {v w : DiskView} {k l m : SinkView} {x y : SourceView} {by : Beginning} (name : List ℕ) (names : List (List ℕ)) (limit : ℕ) (rows : List ℕ) (first : Sessions) (e : ErrorLine) (status : Status) → limit ≤ 2 ^ 40 → IsOpenOver by name names limit v first
-    → Settles name rows first x y v w k l (Err (endings.Refused e)) → SaidUnlessMemory (error_text e) (status_of e) status l m → SeveralTells by name names limit x y v w status k m
+    → Settles name rows first x y v w k l (Err (endings.Refused e)) → SaidUnlessMemory (error_text e) (status_of e) status l m → SeveralEnds by name names limit x y v w status k m
 ends_refused {l = l} {x = x} {y} name names limit rows first e status high opened h (inl said) = inl (record {
   answer = Err e;
   front = told_text h.0.told;
@@ -87,7 +87,7 @@ ends_refused {l = l} name names limit rows first e status high opened h (inr sai
 })
 
 ends_broke : {v w : DiskView} {k l m : SinkView} {x y : SourceView} {by : Beginning} (name : List ℕ) (names : List (List ℕ)) (limit : ℕ) (rows : List ℕ) (first : Sessions) (status : Status) → limit ≤ 2 ^ 40 → IsOpenOver by name names limit v first → Settles name rows first x y v w k l (Err endings.Disk)
-    → Said (error_text errors.Disk) statuses.Disk status l m → SeveralTells by name names limit x y v w status k m
+    → Said (error_text errors.Disk) statuses.Disk status l m → SeveralEnds by name names limit x y v w status k m
 ends_broke {l = l} name names limit rows first status high opened h said = inl (record {
   answer = Err errors.Disk;
   front = told_text h.0.told;
@@ -111,7 +111,7 @@ ends_broke {l = l} name names limit rows first status high opened h said = inl (
 
 -- the sink failed at the line of a batch
 ends_cut : {v w : DiskView} {k l : SinkView} {x y : SourceView} {by : Beginning} (name : List ℕ) (names : List (List ℕ)) (limit : ℕ) (rows : List ℕ) (first : Sessions) → limit ≤ 2 ^ 40 → IsOpenOver by name names limit v first → Settles name rows first x y v w k l (Err endings.Sink)
-    → SeveralTells by name names limit x y v w statuses.Sink k l
+    → SeveralEnds by name names limit x y v w statuses.Sink k l
 ends_cut {v = v} {w = w} {by = by} name names limit rows first high opened h =
     inr (refl, record { ds = datasets_of first.parts; datasets = has_datasets name names limit first opened; batches = h.0; taken = h.1; stops = h.3; left = cases h.0 h.2 })
   where
@@ -123,7 +123,7 @@ none_wanting : {v w : DiskView} {by : Beginning} (name : List ℕ) (names : List
 none_wanting {v = v} name names e h = record { disk = h.disk; exact = any_told v.told (λ d. inl (inr refl)); kinds = inr (OutOfMemory, refl, tt); cause = λ f. absurd (cc) }
 
 -- the file was not opened
-ends_none : {v w : DiskView} {k l : SinkView} {by : Beginning} (x : SourceView) (name : List ℕ) (names : List (List ℕ)) (limit : ℕ) (e : ErrorLine) (status : Status) → Unopened by name names v w e → SaidUnlessMemory (error_text e) (status_of e) status k l → SeveralTells by name names limit x x v w status k l
+ends_none : {v w : DiskView} {k l : SinkView} {by : Beginning} (x : SourceView) (name : List ℕ) (names : List (List ℕ)) (limit : ℕ) (e : ErrorLine) (status : Status) → Unopened by name names v w e → SaidUnlessMemory (error_text e) (status_of e) status k l → SeveralEnds by name names limit x x v w status k l
 ends_none {k = k} x name names limit e status h (inl said) = inl (record {
   answer = Err e;
   front = [];
@@ -146,21 +146,21 @@ ends_none {k = k} x name names limit e status h (inr said) = inl (record {
 -- ---- By its result
 
 pub several_whole : {v w : DiskView} {k l m : SinkView} {x y : SourceView} {by : Beginning} (name : List ℕ) (names : List (List ℕ)) (limit : ℕ) (status : Status) (text bytes : List ℕ) → limit ≤ 2 ^ 40 → bytes ≡ text → Finishes by name names limit x y v w k l text (Ok tt) → Said bytes statuses.Done status l m
-    → SeveralTells by name names limit x y v w status k m
+    → SeveralEnds by name names limit x y v w status k m
 several_whole name names limit status text bytes high is h said = ends_done name names limit h.rows h.first status bytes high h.opened h.settles (is ∙ h.line) said
 
 pub several_some : {v w : DiskView} {k l m : SinkView} {x y : SourceView} {by : Beginning} (name : List ℕ) (names : List (List ℕ)) (limit : ℕ) (e : ErrorLine) (status : Status) (text : List ℕ) → limit ≤ 2 ^ 40
-    → BeginsNone by name names x y v w k l e ⊎ Finishes by name names limit x y v w k l text (Err (endings.Refused e)) → SaidUnlessMemory (error_text e) (status_of e) status l m → SeveralTells by name names limit x y v w status k m
+    → BeginsNone by name names x y v w k l e ⊎ Finishes by name names limit x y v w k l text (Err (endings.Refused e)) → SaidUnlessMemory (error_text e) (status_of e) status l m → SeveralEnds by name names limit x y v w status k m
 several_some {v = v} {w = w} {k = k} {l = l} {m = m} {x = x} {y = y} {by = by} name names limit e status text high (inl h) said =
-    subst (λ (z : SourceView). SeveralTells by name names limit x z v w status k m) (sym h.unread)
+    subst (λ (z : SourceView). SeveralEnds by name names limit x z v w status k m) (sym h.unread)
     (ends_none x name names limit e status h.unopened (subst (λ (o : SinkView). SaidUnlessMemory (error_text e) (status_of e) status o m) h.unwritten said))
 several_some name names limit e status text high (inr h) said = ends_refused name names limit h.rows h.first e status high h.opened h.settles said
 
 pub several_broke : {v w : DiskView} {k l m : SinkView} {x y : SourceView} {by : Beginning} (name : List ℕ) (names : List (List ℕ)) (limit : ℕ) (status : Status) (text : List ℕ) → limit ≤ 2 ^ 40 → Finishes by name names limit x y v w k l text (Err endings.Disk)
-    → Said (error_text errors.Disk) statuses.Disk status l m → SeveralTells by name names limit x y v w status k m
+    → Said (error_text errors.Disk) statuses.Disk status l m → SeveralEnds by name names limit x y v w status k m
 several_broke name names limit status text high h said = ends_broke name names limit h.rows h.first status high h.opened h.settles said
 
-pub several_cut : {v w : DiskView} {k l : SinkView} {x y : SourceView} {by : Beginning} (name : List ℕ) (names : List (List ℕ)) (limit : ℕ) (text : List ℕ) → limit ≤ 2 ^ 40 → Finishes by name names limit x y v w k l text (Err endings.Sink) → SeveralTells by name names limit x y v w statuses.Sink k l
+pub several_cut : {v w : DiskView} {k l : SinkView} {x y : SourceView} {by : Beginning} (name : List ℕ) (names : List (List ℕ)) (limit : ℕ) (text : List ℕ) → limit ≤ 2 ^ 40 → Finishes by name names limit x y v w k l text (Err endings.Sink) → SeveralEnds by name names limit x y v w statuses.Sink k l
 several_cut name names limit text high h = ends_cut name names limit h.rows h.first high h.opened h.settles
 
 pub several_finishes : {v : DiskView} {by : Beginning} (u w : DiskView) (k l : SinkView) (x y : SourceView) (text : List ℕ) (name : List ℕ) (names : List (List ℕ)) (limit : ℕ) (first S : Sessions) (taken r : Result (Unit {0}) Ending) (n : ℕ) → IsOpenOver by name names limit v first → v.faults ≡ n

@@ -1,11 +1,11 @@
 -- An append's end in words of the file's bytes and of a log alone, from why no session begins.
-use Rattle.std.proofs.Common.{◌≡◌, ◌⊎◌, ℕ, List, [], ◌∷◌, length, take, Option, Some, None, Result, Ok, Err, refl, subst, inl, inr}
+use Rattle.std.proofs.Common.{◌≡◌, ◌⊎◌, ℕ, List, [], ◌∷◌, length, take, Option, Some, None, Result, Ok, Err, subst, inl, inr}
 use Rattle.std.specs.Prelude.{IfSome, get_or}
 use Rattle.std.specs.List.{AllByRecursion}
 use Rattle.h5w_model.specs.declared.root.Super.{Super}
 use Rattle.h5w_image.specs.View.{DiskState, DiskView, file}
 use Rattle.h5w_opening.specs.Fronts.{FrontFields}
-use Rattle.h5w_opening.specs.Openings.{DatasetHeaderFields, Opened, dataset_found}
+use Rattle.h5w_opening.specs.Openings.{DatasetHeaderFields, Opened}
 use Rattle.h5w_opening.specs.declared.error.OpenError.{OpenError}
 use Rattle.h5w_writer_open.specs.OpenParts.{IsUnread, bad_block, bad_range, no_header, opened_at}
 use Rattle.h5w_text.specs.Streams.{SourceView, SinkView}
@@ -22,7 +22,7 @@ use Rattle.h5w_several_open.specs.Taken.{closed_front}
 use Rattle.h5w_several_open.specs.declared.beginning.Beginning.{Beginning}
 use Rattle.h5w_several_open.specs.declared.beginning.Beginning.TheVariants as beginnings
 use Rattle.h5w_several_appending.specs.Ends.{EndsTo, IsNoneOpened, LeadsTo, SaysDataset, SeveralTellsEnd, WhyNoneOpened, by_dataset, by_front, by_header, front_found}
-use Rattle.h5w_several_appending.specs.Tells.{SeveralTells, TellsTo, TellsWhy}
+use Rattle.h5w_several_appending.specs.Tells.{SeveralEnds, TellsTo, TellsWhy}
 
 -- ---- A dataset
 
@@ -99,7 +99,7 @@ ends_to by v w name names limit s t (Err e) front last (inl h) = inl (record {
 ends_to by v w name names limit s t (Err e) front last (inr h) = inr h
 
 -- an append's end in words of the file's bytes and of a log alone
-pub several_tells_end : {s t : SourceView} {v w : DiskView} {k l : SinkView} {by : Beginning} (name : List ℕ) (names : List (List ℕ)) (limit : ℕ) (status : Status) → SeveralTells by name names limit s t v w status k l → SeveralTellsEnd by name names limit s t v w status k l
+pub several_tells_end : {s t : SourceView} {v w : DiskView} {k l : SinkView} {by : Beginning} (name : List ℕ) (names : List (List ℕ)) (limit : ℕ) (status : Status) → SeveralEnds by name names limit s t v w status k l → SeveralTellsEnd by name names limit s t v w status k l
 several_tells_end {s = s} {t = t} {v = v} {w = w} {by = by} name names limit status (inl h) = inl (record {
   answer = h.answer;
   front = h.front;

@@ -293,6 +293,6 @@ pub record TellsCut (by : Beginning) (name : List ℕ) (names : List (List ℕ))
   pub left : IsClosed by name names batches v w ⊎ IsBroken name names batches v w
 
 -- how an append ends: the lines of all its batches are written before the last line, or the sink fails at one of them
-abbrev pub SeveralTells : Beginning → List ℕ → List (List ℕ) → (limit : ℕ) → SourceView → SourceView → DiskView → DiskView → Status → SinkView → SinkView → Type 0
-SeveralTells by name names limit s t v w status k l =
+abbrev pub SeveralEnds : Beginning → List ℕ → List (List ℕ) → (limit : ℕ) → SourceView → SourceView → DiskView → DiskView → Status → SinkView → SinkView → Type 0
+SeveralEnds by name names limit s t v w status k l =
     EndsBehind {A = Unit {0}} (TellsTo by name names limit s t v w) status k l ⊎ ((status ≡ statuses.Sink) × TellsCut by name names s t v w k l)

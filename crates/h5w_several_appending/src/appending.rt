@@ -6,7 +6,7 @@ ghost use Rattle.h5w_input.specs.LinesAhead.{lines_ahead};
 ghost use Rattle.h5w_batches.specs.Inputs.{SameSource, input_limit, outside};
 ghost use Rattle.h5w_several_batches.specs.SetLines.{columns_at};
 ghost use Rattle.h5w_several_appending.specs.Taken.{closed_line, columns_in};
-ghost use Rattle.h5w_several_appending.specs.Tells.{SeveralTells};
+ghost use Rattle.h5w_several_appending.specs.Tells.{SeveralEnds};
 ghost use Rattle.h5w_several_appending.specs.Ends.{SeveralTellsEnd};
 ghost use Rattle.h5w_several_appending.specs.Appending.{ClosesBy, FinishesBy, IsBegun, IsReady, ReadyUnlessDisk, SettlesOn, TakesInputFrom, TakesInputOn};
 
@@ -224,8 +224,8 @@ pub fn append<S: Source, K: Sink, D: Disk>(
     requires low { 1024 ≤ terms.limit }
     requires high { terms.limit ≤ 2 ^ 40 }
     requires budget { (1024 ≤ terms.budget) × (terms.budget ≤ 2 ^ 30) }
-    ensures tells { SeveralTells terms.entry.by terms.entry.file.now names.now terms.entry.limit (S.view source.old) (S.view source.new) (D.view disk.old) (D.view disk.new) result (K.view sink.old) (K.view sink.new) }
-    ensures ends { SeveralTellsEnd terms.entry.by terms.entry.file.now names.now terms.entry.limit (S.view source.old) (S.view source.new) (D.view disk.old) (D.view disk.new) result (K.view sink.old) (K.view sink.new) }
+    ensures tells { SeveralTellsEnd terms.entry.by terms.entry.file.now names.now terms.entry.limit (S.view source.old) (S.view source.new) (D.view disk.old) (D.view disk.new) result (K.view sink.old) (K.view sink.new) }
+    ensures ends { SeveralEnds terms.entry.by terms.entry.file.now names.now terms.entry.limit (S.view source.old) (S.view source.new) (D.view disk.old) (D.view disk.new) result (K.view sink.old) (K.view sink.new) }
     ensures source { SameSource (S.view source.old) (S.view source.new) }
 {
     let mut text = Vec::new(alloc);

@@ -1,10 +1,7 @@
 //! A session begins over a file by several names, to append to it.
-ghost use Rattle.std.specs.Prelude.{◌≡◌, ◌≤◌, ◌+◌, ◌^◌, false, length};
+ghost use Rattle.std.specs.Prelude.{◌≤◌, ◌+◌, ◌^◌, length};
 ghost use Rattle.std.specs.List.{All};
 ghost use Rattle.h5w_image.specs.View.{IsThere};
-ghost use Rattle.h5w_model.specs.Several.{FileLog};
-ghost use Rattle.h5w_several_writer_laws.specs.Sessions.{keeping};
-ghost use Rattle.h5w_several_writer_laws.specs.Standing.{StandsAll};
 ghost use Rattle.h5w_files.specs.Images.{LeavesFiles};
 ghost use Rattle.h5w_appending.specs.Appending.{HasSize};
 ghost use Rattle.h5w_several_appending.specs.Appending.{IsKept, LooksOpen, OpensBy};

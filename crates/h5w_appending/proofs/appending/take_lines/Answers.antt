@@ -1,223 +1,110 @@
-use Rattle.std.proofs.Common.{◌≡◌, ◌+◌, ◌∷◌, ◌++◌, ◌∙◌, [], Err, Some, ap, sym, subst, arith, refl}
+use Rattle.std.proofs.Common.{◌≡◌, ◌+◌, ◌∙◌, Ok, Err, true, false, length, ap, sym, arith, refl}
 use Rattle.std.proofs.lemmas.Result.{err_from_is_err_and}
-use Rattle.h5w_input.specs.LinesAhead.{lines_ahead}
-use Rattle.h5w_input.specs.Scripts.{number_line_of}
-use Rattle.h5w_batches.specs.Batches.{AreWholeRows}
-use Rattle.h5w_batches.specs.Reads.{error_of}
-use Rattle.h5w_batches.proofs.LineLemmas.{ahead_kept, first_last, first_whole, last_more, reads_all}
+use Rattle.h5w_input.specs.LinesAhead.{IntakeView, lines_ahead}
+use Rattle.h5w_batches.proofs.LineLemmas.{ahead_kept}
 use Rattle.h5w_batches.proofs.RowLemmas.{spelled_rows}
 use Rattle.h5w_appending.specs.Appends.{columns_of}
-use Rattle.h5w_appending.specs.Appending.{ending_of}
-use Rattle.h5w_appending.proofs.InputLemmas.{ahead_room, done_more, held_columns, ready_source, taken_ahead, taken_end, taken_line, taken_source, taking_ahead, taking_first, taking_held, taking_kept, taking_more}
+use Rattle.h5w_appending.proofs.InputLemmas.{goes_on, held_columns, held_ready, held_room, next_ready, next_room, taken_end, taken_held, taking_both, taking_first, taking_kept}
 use Rattle.h5w_appending.proofs.appending.take_lines.Goals as goal
 
-pub loop-number-init : goal.loop-number-init
-loop-number-init g c = record {
+pub loop-session-init : goal.loop-session-init
+loop-session-init g c = record {
   taking = taking_first c.args.target.faults c.args.target.file.now c.args.session.now (lines_ahead (g.S.Source.view c.args.lines.now.source.now) c.args.lines.now.intake.now) c.requires.ready;
   same_reference = refl;
   same_intake = refl;
 }
 
-pub take_values-requires-clause-rows : goal.take_values-requires-clause-rows
-take_values-requires-clause-rows g c =
-    let taking = c.loop-number.invariant.taking in
-    let held = held_columns c.args.columns c.loop-number.session c.take_numbers.new.values.items (c.requires.columns ∙ sym taking.columns) (c.take_numbers.ensures.taken c.if-take_numbers.true) in
-    subst (AreWholeRows (columns_of c.loop-number.session)) (sym c.deref.ensures.value) (spelled_rows (columns_of c.loop-number.session) held.line c.take_numbers.new.values.items taking.ready.columns held.spelled)
+pub take_held-requires-clause-rows : goal.take_held-requires-clause-rows
+take_held-requires-clause-rows g c =
+    let taking = c.loop-session.invariant.taking in
+    let held = held_columns c.args.columns c.loop-session.session c.take_numbers.new.values.items (c.requires.columns ∙ sym taking.columns) (c.take_numbers.ensures.taken c.if-take_numbers.true) in
+    spelled_rows (columns_of c.loop-session.session) held.line c.take_numbers.new.values.items taking.ready.columns held.spelled
 
-pub returns-in_err-take_values-clause-takes : goal.returns-in_err-take_values-clause-takes
-returns-in_err-take_values-clause-takes g c =
+pub returns-in_err-number-clause-ready : goal.returns-in_err-number-clause-ready
+returns-in_err-number-clause-ready g c =
     let gone = err_from_is_err_and c.from_residual.result c.from_residual.ensures.1 in
-    let is : c.from_residual.result ≡ Err c.in_err-take_values.field-0.0 = gone.1 ∙ ap (λ x. Err x) gone.2 in
-    let taking = c.loop-number.invariant.taking in
-    let held = held_columns c.args.columns c.loop-number.session c.take_numbers.new.values.items (c.requires.columns ∙ sym taking.columns) (c.take_numbers.ensures.taken c.if-take_numbers.true) in
-    rw is (taken_line _ _ (g.S.Source.view c.take_numbers.new.self.source.now) c.args.target.faults c.args.target.file.now c.args.session.now c.loop-number.session c.take_values.new.session held.line c.in_err-take_values.field-0.0 c.requires.room taking
-    (first_whole held.line c.requires.room taking.going held.given held.whole) (c.in_err-take_values.ensures.steps held.line (held.spelled ∙ ap Some (sym c.deref.ensures.value))))
+    let is : c.from_residual.result ≡ Err c.in_err-number.field-0.0 = gone.1 ∙ ap (λ x. Err x) gone.2 in
+    rw is (held_ready c.args.target.faults c.args.target.file.now (c.loop-session.number + 1) c.take_numbers.new.values.items c.loop-session.session c.take_held.new.session c.in_err-number.field-0.0 c.in_err-number.ensures.held)
 
 pub returns-in_err-number-clause-takes : goal.returns-in_err-number-clause-takes
 returns-in_err-number-clause-takes g c =
-    let gone = err_from_is_err_and c.from_residual-in_err-number.result c.from_residual-in_err-number.ensures.1 in
-    let is : c.from_residual-in_err-number.result ≡ Err c.in_err-number.field-0.0 = gone.1 ∙ ap (λ x. Err x) gone.2 in
-    let taking = c.loop-number.invariant.taking in
-    let held = held_columns c.args.columns c.loop-number.session c.take_numbers.new.values.items (c.requires.columns ∙ sym taking.columns) (c.take_numbers.ensures.taken c.if-take_numbers.true) in
-    let taken = taking_held c.args.target.faults c.args.target.file.now c.args.session.now c.loop-number.session c.take_values.new.session c.take_numbers.new.values.items taking held (c.in_ok-take_values.ensures.steps held.line (held.spelled ∙ ap Some (sym c.deref.ensures.value))) c.in_ok-take_values.ensures.ready
-    c.in_ok-take_values.ensures.columns in
-    let y = lines_ahead (g.S.Source.view c.take_ahead.new.lines.source.now) c.take_ahead.new.lines.intake.now in
-    rw is (taken_ahead y _ (g.S.Source.view c.take_ahead.new.lines.source.now) c.args.target.faults c.args.target.file.now c.args.session.now c.take_values.new.session c.take_ahead.new.session c.in_err-number.field-0.0 c.requires.room taken c.in_err-number.ensures.ahead)
+    let gone = err_from_is_err_and c.from_residual.result c.from_residual.ensures.1 in
+    let is : c.from_residual.result ≡ Err c.in_err-number.field-0.0 = gone.1 ∙ ap (λ x. Err x) gone.2 in
+    let taking = c.loop-session.invariant.taking in
+    let held = held_columns c.args.columns c.loop-session.session c.take_numbers.new.values.items (c.requires.columns ∙ sym taking.columns) (c.take_numbers.ensures.taken c.if-take_numbers.true) in
+    rw is (taken_held _ _ (g.S.Source.view c.take_held.new.lines.source.now) c.args.target.faults c.args.target.file.now c.args.session.now c.loop-session.session c.take_held.new.session c.take_numbers.new.values.items c.in_err-number.field-0.0 c.requires.room taking held c.in_err-number.ensures.held)
 
 pub overflow_add-number-then-take_numbers : goal.overflow_add-number-then-take_numbers
 overflow_add-number-then-take_numbers g c =
-    let taking = c.loop-number.invariant.taking in
-    let held = held_columns c.args.columns c.loop-number.session c.take_numbers.new.values.items (c.requires.columns ∙ sym taking.columns) (c.take_numbers.ensures.taken c.if-take_numbers.true) in
-    let taken = taking_held c.args.target.faults c.args.target.file.now c.args.session.now c.loop-number.session c.take_values.new.session c.take_numbers.new.values.items taking held (c.in_ok-take_values.ensures.steps held.line (held.spelled ∙ ap Some (sym c.deref.ensures.value))) c.in_ok-take_values.ensures.ready
-    c.in_ok-take_values.ensures.columns in
-    let more = taking_ahead c.args.target.faults c.args.target.file.now c.args.session.now c.take_values.new.session c.take_ahead.new.session taken c.in_ok-number.ensures.ahead in
+    let taking = c.loop-session.invariant.taking in
+    let held = held_columns c.args.columns c.loop-session.session c.take_numbers.new.values.items (c.requires.columns ∙ sym taking.columns) (c.take_numbers.ensures.taken c.if-take_numbers.true) in
+    let more = taking_both c.args.target.faults c.args.target.file.now c.args.session.now c.loop-session.session c.take_held.new.session c.take_numbers.new.values.items taking held c.in_ok-number.ensures.held in
     let bound = more.going.going.room in
     let room = c.requires.room in
     omega (arith, bound, room)
 
-pub loop-number-preserved-then-take_numbers : goal.loop-number-preserved-then-take_numbers
-loop-number-preserved-then-take_numbers g c =
-    let taking = c.loop-number.invariant.taking in
-    let held = held_columns c.args.columns c.loop-number.session c.take_numbers.new.values.items (c.requires.columns ∙ sym taking.columns) (c.take_numbers.ensures.taken c.if-take_numbers.true) in
-    let taken = taking_held c.args.target.faults c.args.target.file.now c.args.session.now c.loop-number.session c.take_values.new.session c.take_numbers.new.values.items taking held (c.in_ok-take_values.ensures.steps held.line (held.spelled ∙ ap Some (sym c.deref.ensures.value))) c.in_ok-take_values.ensures.ready
-    c.in_ok-take_values.ensures.columns in
+pub loop-session-preserved : goal.loop-session-preserved
+loop-session-preserved g c =
+    let taking = c.loop-session.invariant.taking in
+    let held = held_columns c.args.columns c.loop-session.session c.take_numbers.new.values.items (c.requires.columns ∙ sym taking.columns) (c.take_numbers.ensures.taken c.if-take_numbers.true) in
     record {
-      taking = taking_ahead c.args.target.faults c.args.target.file.now c.args.session.now c.take_values.new.session c.take_ahead.new.session taken c.in_ok-number.ensures.ahead;
-      same_reference = c.in_ok-number.ensures.same_reference ∙ c.take_numbers.ensures.same_reference ∙ c.loop-number.invariant.same_reference;
-      same_intake = c.in_ok-number.ensures.same_intake ∙ c.take_numbers.ensures.same_intake ∙ c.loop-number.invariant.same_intake;
+      taking = taking_both c.args.target.faults c.args.target.file.now c.args.session.now c.loop-session.session c.take_held.new.session c.take_numbers.new.values.items taking held c.in_ok-number.ensures.held;
+      same_reference = c.in_ok-number.ensures.same_reference ∙ c.take_numbers.ensures.same_reference ∙ c.loop-session.invariant.same_reference;
+      same_intake = c.in_ok-number.ensures.same_intake ∙ c.take_numbers.ensures.same_intake ∙ c.loop-session.invariant.same_intake;
     }
 
-pub loop-number-smaller-then-take_numbers : goal.loop-number-smaller-then-take_numbers
-loop-number-smaller-then-take_numbers g c =
+pub loop-session-smaller : goal.loop-session-smaller
+loop-session-smaller g c =
     let taken = c.take_numbers.ensures.taken c.if-take_numbers.true in
     let down = taken.given.room in
-    let x = lines_ahead (g.S.Source.view c.take_numbers.new.self.source.now) c.take_numbers.new.self.intake.now in
-    let y = lines_ahead (g.S.Source.view c.take_ahead.new.lines.source.now) c.take_ahead.new.lines.intake.now in
-    let more = ahead_room c.in_ok-number.field-0 c.args.target.faults c.args.target.file.now c.take_values.new.session c.take_ahead.new.session x y c.in_ok-number.ensures.ahead in
+    let more = held_room c.in_ok-number.field-0 c.args.target.faults c.args.target.file.now (c.loop-session.number + 1) c.take_numbers.new.values.items c.loop-session.session c.take_held.new.session c.in_ok-number.ensures.held in
     omega (arith, down, more)
 
-pub returns-in_err-line-clause-ready : goal.returns-in_err-line-clause-ready
-returns-in_err-line-clause-ready g c =
-    let taking = taking_kept c.args.target.faults c.args.target.file.now c.args.session.now c.loop-number.session (ahead_kept (ap g.S.Source.view c.take_numbers.ensures.source) (c.take_numbers.ensures.kept c.if-take_numbers.false)) c.loop-number.invariant.taking in
-    let gone = err_from_is_err_and c.from_residual-in_err-line.result c.from_residual-in_err-line.ensures.1 in
-    let is : c.from_residual-in_err-line.result ≡ Err (ending_of (error_of c.in_err-line.field-0.0)) = gone.1 ∙ ap (λ x. Err x) gone.2 in
-    rw is (ready_source c.args.target.file.now c.loop-number.session c.in_err-line.field-0.0 taking.ready)
+pub overflow_add-number : goal.overflow_add-number
+overflow_add-number g c =
+    let bound = c.loop-session.invariant.taking.going.going.room in
+    let room = c.requires.room in
+    omega (arith, bound, room)
 
-pub returns-in_err-line-clause-takes : goal.returns-in_err-line-clause-takes
-returns-in_err-line-clause-takes g c =
-    let taking = taking_kept c.args.target.faults c.args.target.file.now c.args.session.now c.loop-number.session (ahead_kept (ap g.S.Source.view c.take_numbers.ensures.source) (c.take_numbers.ensures.kept c.if-take_numbers.false)) c.loop-number.invariant.taking in
-    let gone = err_from_is_err_and c.from_residual-in_err-line.result c.from_residual-in_err-line.ensures.1 in
-    let is : c.from_residual-in_err-line.result ≡ Err (ending_of (error_of c.in_err-line.field-0.0)) = gone.1 ∙ ap (λ x. Err x) gone.2 in
-    rw is (taken_source (g.S.Source.view c.next.new.self.source.now) c.next.new.self.intake.now c.args.target.faults c.args.target.file.now c.args.session.now c.loop-number.session c.in_err-line.field-0.0 c.requires.room c.requires.limit taking c.in_err-line.ensures.stays
-    (λ e. c.in_err-line.ensures.cause (ap Err e)) (λ e. c.in_err-line.ensures.failed (ap Err e)) (λ limit e. c.in_err-line.ensures.input limit (ap Err e)))
+pub take_next-requires : goal.take_next-requires
+take_next-requires g c = c.loop-session.invariant.taking.ready
 
-pub returns-in_err-take_line-in-Line-clause-takes : goal.returns-in_err-take_line-in-Line-clause-takes
-returns-in_err-take_line-in-Line-clause-takes g c =
-    let taking = taking_kept c.args.target.faults c.args.target.file.now c.args.session.now c.loop-number.session (ahead_kept (ap g.S.Source.view c.take_numbers.ensures.source) (c.take_numbers.ensures.kept c.if-take_numbers.false)) c.loop-number.invariant.taking in
-    let gone = err_from_is_err_and c.from_residual-in_err-take_line-in-Line.result c.from_residual-in_err-take_line-in-Line.ensures.1 in
-    let is : c.from_residual-in_err-take_line-in-Line.result ≡ Err c.in_err-take_line-in-Line.field-0.0 = gone.1 ∙ ap (λ x. Err x) gone.2 in
-    let given = rw c.in-Line.is at c.in_ok-line.ensures.line in
-    rw is (taken_line _ _ (g.S.Source.view c.next.new.self.source.now) c.args.target.faults c.args.target.file.now c.args.session.now c.loop-number.session c.take_line.new.session given.0 c.in_err-take_line-in-Line.field-0.0 c.requires.room taking
-    (first_whole given.0 c.requires.room taking.going given.2 given.3) (c.in_err-take_line-in-Line.ensures.steps given.0 given.1))
+pub returns-in_err-take_next-clause-ready : goal.returns-in_err-take_next-clause-ready
+returns-in_err-take_next-clause-ready g c =
+    let gone = err_from_is_err_and c.from_residual-in_err-take_next.result c.from_residual-in_err-take_next.ensures.1 in
+    let is : c.from_residual-in_err-take_next.result ≡ Err c.in_err-take_next.field-0.0 = gone.1 ∙ ap (λ x. Err x) gone.2 in
+    rw is (next_ready c.args.target.faults c.args.target.file.now (c.loop-session.number + 1) c.loop-session.session c.take_next.new.session (Err c.in_err-take_next.field-0.0) c.loop-session.invariant.taking.ready c.in_err-take_next.ensures.next)
 
-pub loop-number-preserved-in_ok-take_line-in-Line : goal.loop-number-preserved-in_ok-take_line-in-Line
-loop-number-preserved-in_ok-take_line-in-Line g c =
-    let taking = taking_kept c.args.target.faults c.args.target.file.now c.args.session.now c.loop-number.session (ahead_kept (ap g.S.Source.view c.take_numbers.ensures.source) (c.take_numbers.ensures.kept c.if-take_numbers.false)) c.loop-number.invariant.taking in
-    let given = rw c.in-Line.is at c.in_ok-line.ensures.line in
-    let some = c.in_ok-take_line-in-Line.ensures.spelled given.0 given.1 in
+pub returns-in_err-take_next-clause-takes : goal.returns-in_err-take_next-clause-takes
+returns-in_err-take_next-clause-takes g c =
+    let gone = err_from_is_err_and c.from_residual-in_err-take_next.result c.from_residual-in_err-take_next.ensures.1 in
+    let is : c.from_residual-in_err-take_next.result ≡ Err c.in_err-take_next.field-0.0 = gone.1 ∙ ap (λ x. Err x) gone.2 in
+    let taking = taking_kept c.args.target.faults c.args.target.file.now c.args.session.now c.loop-session.session (ahead_kept (ap g.S.Source.view c.take_numbers.ensures.source) (c.take_numbers.ensures.kept c.if-take_numbers.false)) c.loop-session.invariant.taking in
+    rw is (goes_on (g.S.Source.view c.take_next.new.lines.source.now) c.take_next.new.lines.intake.now c.args.target.faults c.args.target.file.now c.args.session.now c.loop-session.session c.take_next.new.session (Err c.in_err-take_next.field-0.0) c.requires.room c.requires.limit taking c.in_err-take_next.ensures.stays c.in_err-take_next.ensures.next)
+
+pub loop-session-preserved-then-branch : goal.loop-session-preserved-then-branch
+loop-session-preserved-then-branch g c =
+    let taking = taking_kept c.args.target.faults c.args.target.file.now c.args.session.now c.loop-session.session (ahead_kept (ap g.S.Source.view c.take_numbers.ensures.source) (c.take_numbers.ensures.kept c.if-take_numbers.false)) c.loop-session.invariant.taking in
     record {
-      taking = taking_more c.args.target.faults c.args.target.file.now c.args.session.now c.loop-number.session c.take_line.new.session given.0 some.0 taking given.2 given.3 some.1 (c.in_ok-take_line-in-Line.ensures.steps given.0 given.1) c.in_ok-take_line-in-Line.ensures.ready
-          c.in_ok-take_line-in-Line.ensures.columns;
-      same_reference = c.in_ok-line.ensures.same_reference ∙ c.take_numbers.ensures.same_reference ∙ c.loop-number.invariant.same_reference;
-      same_intake = c.in_ok-line.ensures.same_intake ∙ c.take_numbers.ensures.same_intake ∙ c.loop-number.invariant.same_intake;
+      taking = goes_on (g.S.Source.view c.take_next.new.lines.source.now) c.take_next.new.lines.intake.now c.args.target.faults c.args.target.file.now c.args.session.now c.loop-session.session c.take_next.new.session (Ok true) c.requires.room c.requires.limit taking c.in_ok-take_next.ensures.stays (rw c.if-branch.true at c.in_ok-take_next.ensures.next);
+      same_reference = c.in_ok-take_next.ensures.same_reference ∙ c.take_numbers.ensures.same_reference ∙ c.loop-session.invariant.same_reference;
+      same_intake = c.in_ok-take_next.ensures.same_intake ∙ c.take_numbers.ensures.same_intake ∙ c.loop-session.invariant.same_intake;
     }
 
-pub loop-number-preserved : goal.loop-number-preserved
-loop-number-preserved g c =
-    let taking = taking_kept c.args.target.faults c.args.target.file.now c.args.session.now c.loop-number.session (ahead_kept (ap g.S.Source.view c.take_numbers.ensures.source) (c.take_numbers.ensures.kept c.if-take_numbers.false)) c.loop-number.invariant.taking in
-    let given = rw c.in-Line.is at c.in_ok-line.ensures.line in
-    let some = c.in_ok-take_line-in-Line.ensures.spelled given.0 given.1 in
-    record {
-      taking = taking_more c.args.target.faults c.args.target.file.now c.args.session.now c.loop-number.session c.take_line.new.session given.0 some.0 taking given.2 given.3 some.1 (c.in_ok-take_line-in-Line.ensures.steps given.0 given.1) c.in_ok-take_line-in-Line.ensures.ready
-          c.in_ok-take_line-in-Line.ensures.columns;
-      same_reference = c.in_ok-line.ensures.same_reference ∙ c.take_numbers.ensures.same_reference ∙ c.loop-number.invariant.same_reference;
-      same_intake = c.in_ok-line.ensures.same_intake ∙ c.take_numbers.ensures.same_intake ∙ c.loop-number.invariant.same_intake;
-    }
+pub loop-session-smaller-then-branch : goal.loop-session-smaller-then-branch
+loop-session-smaller-then-branch g c =
+    let kept = ap (λ (i : IntakeView). length i.held + i.more) (c.take_numbers.ensures.kept c.if-take_numbers.false) in
+    let down = next_room c.args.target.faults c.args.target.file.now (c.loop-session.number + 1) c.loop-session.session c.take_next.new.session c.in_ok-take_next.field-0 c.if-branch.true c.in_ok-take_next.ensures.next in
+    omega (arith, kept, down)
 
-pub returns-in_err-take_line-in-Last-clause-takes : goal.returns-in_err-take_line-in-Last-clause-takes
-returns-in_err-take_line-in-Last-clause-takes g c =
-    let taking = taking_kept c.args.target.faults c.args.target.file.now c.args.session.now c.loop-number.session (ahead_kept (ap g.S.Source.view c.take_numbers.ensures.source) (c.take_numbers.ensures.kept c.if-take_numbers.false)) c.loop-number.invariant.taking in
-    let gone = err_from_is_err_and c.from_residual-in_err-take_line-in-Last.result c.from_residual-in_err-take_line-in-Last.ensures.1 in
-    let is : c.from_residual-in_err-take_line-in-Last.result ≡ Err c.in_err-take_line-in-Last.field-0.0 = gone.1 ∙ ap (λ x. Err x) gone.2 in
-    let given = rw c.in-Last.is at c.in_ok-line.ensures.line in
-    rw is (taken_line _ _ (g.S.Source.view c.next.new.self.source.now) c.args.target.faults c.args.target.file.now c.args.session.now c.loop-number.session c.take_line-in-Last.new.session given.0 c.in_err-take_line-in-Last.field-0.0 c.requires.room taking
-    (first_last given.0 c.requires.room taking.going.going given.2 given.3) (c.in_err-take_line-in-Last.ensures.steps given.0 given.1))
+pub returns-else-branch-clause-ready : goal.returns-else-branch-clause-ready
+returns-else-branch-clause-ready g c = c.close_batch.ensures.ready
 
-pub returns-in-Last-clause-takes : goal.returns-in-Last-clause-takes
-returns-in-Last-clause-takes g c =
-    let taking = taking_kept c.args.target.faults c.args.target.file.now c.args.session.now c.loop-number.session (ahead_kept (ap g.S.Source.view c.take_numbers.ensures.source) (c.take_numbers.ensures.kept c.if-take_numbers.false)) c.loop-number.invariant.taking in
-    let given = rw c.in-Last.is at c.in_ok-line.ensures.line in
-    let some = c.in_ok-take_line-in-Last.ensures.spelled given.0 given.1 in
-    let spelled = subst (λ k. number_line_of k given.0 ≡ Some some.0) taking.columns some.1 in
-    let t = g.S.Source.view c.next.new.self.source.now in
-    let j = c.next.new.self.intake.now in
-    let going = last_more given.0 some.0 taking.going.going given.2 given.2.passed spelled in
-    let numbers = taking.numbers ++ some.0 ∷ [] in
-    taken_end _ _ c.args.target.faults c.args.target.file.now c.args.session.now c.take_line-in-Last.new.session c.close_batch.new.session numbers c.close_batch.result (reads_all t j c.requires.room going (record { before = given.3; now = given.3 }))
-    (done_more c.args.target.faults c.args.target.file.now c.args.session.now c.loop-number.session c.take_line-in-Last.new.session given.0 (c.loop-number.number + 1) some.0 taking.numbers taking.columns taking.done some.1 (c.in_ok-take_line-in-Last.ensures.steps given.0 given.1))
-    c.close_batch.ensures.steps
+pub returns-else-branch-clause-takes : goal.returns-else-branch-clause-takes
+returns-else-branch-clause-takes g c =
+    let taking = taking_kept c.args.target.faults c.args.target.file.now c.args.session.now c.loop-session.session (ahead_kept (ap g.S.Source.view c.take_numbers.ensures.source) (c.take_numbers.ensures.kept c.if-take_numbers.false)) c.loop-session.invariant.taking in
+    let reached = goes_on (g.S.Source.view c.take_next.new.lines.source.now) c.take_next.new.lines.intake.now c.args.target.faults c.args.target.file.now c.args.session.now c.loop-session.session c.take_next.new.session (Ok false) c.requires.room c.requires.limit taking c.in_ok-take_next.ensures.stays (rw c.if-branch.false at c.in_ok-take_next.ensures.next) in
+    taken_end _ _ c.args.target.faults c.args.target.file.now c.args.session.now c.take_next.new.session c.close_batch.new.session reached.numbers c.close_batch.result reached.read reached.done c.close_batch.ensures.steps
 
-pub returns-in-End-clause-takes : goal.returns-in-End-clause-takes
-returns-in-End-clause-takes g c =
-    let taking = taking_kept c.args.target.faults c.args.target.file.now c.args.session.now c.loop-number.session (ahead_kept (ap g.S.Source.view c.take_numbers.ensures.source) (c.take_numbers.ensures.kept c.if-take_numbers.false)) c.loop-number.invariant.taking in
-    let ended = rw c.in-End.is at c.in_ok-line.ensures.line in
-    let t = g.S.Source.view c.next.new.self.source.now in
-    let j = c.next.new.self.intake.now in
-    taken_end _ _ c.args.target.faults c.args.target.file.now c.args.session.now c.loop-number.session c.close_batch-in-End.new.session taking.numbers c.close_batch-in-End.result (reads_all t j c.requires.room taking.going.going ended) taking.done
-    c.close_batch-in-End.ensures.steps
-
-pub returns-in_err-take_values-clause-ready : goal.returns-in_err-take_values-clause-ready
-returns-in_err-take_values-clause-ready g c =
-    let gone = err_from_is_err_and c.from_residual.result c.from_residual.ensures.1 in
-    let is : c.from_residual.result ≡ Err c.in_err-take_values.field-0.0 = gone.1 ∙ ap (λ x. Err x) gone.2 in
-    rw is c.in_err-take_values.ensures.ready
-
-pub returns-in_err-take_line-in-Line-clause-ready : goal.returns-in_err-take_line-in-Line-clause-ready
-returns-in_err-take_line-in-Line-clause-ready g c =
-    let gone = err_from_is_err_and c.from_residual-in_err-take_line-in-Line.result c.from_residual-in_err-take_line-in-Line.ensures.1 in
-    let is : c.from_residual-in_err-take_line-in-Line.result ≡ Err c.in_err-take_line-in-Line.field-0.0 = gone.1 ∙ ap (λ x. Err x) gone.2 in
-    rw is c.in_err-take_line-in-Line.ensures.ready
-
-pub returns-in_err-take_line-in-Last-clause-ready : goal.returns-in_err-take_line-in-Last-clause-ready
-returns-in_err-take_line-in-Last-clause-ready g c =
-    let gone = err_from_is_err_and c.from_residual-in_err-take_line-in-Last.result c.from_residual-in_err-take_line-in-Last.ensures.1 in
-    let is : c.from_residual-in_err-take_line-in-Last.result ≡ Err c.in_err-take_line-in-Last.field-0.0 = gone.1 ∙ ap (λ x. Err x) gone.2 in
-    rw is c.in_err-take_line-in-Last.ensures.ready
-
-pub returns-in-Last-clause-ready : goal.returns-in-Last-clause-ready
-returns-in-Last-clause-ready g c = c.close_batch.ensures.ready
-
-pub returns-in-End-clause-ready : goal.returns-in-End-clause-ready
-returns-in-End-clause-ready g c = c.close_batch-in-End.ensures.ready
-
-pub returns-in_err-take_values-clause-same_reference : goal.returns-in_err-take_values-clause-same_reference
-returns-in_err-take_values-clause-same_reference g c = c.take_numbers.ensures.same_reference ∙ c.loop-number.invariant.same_reference
-
-pub returns-in_err-number-clause-same_reference : goal.returns-in_err-number-clause-same_reference
-returns-in_err-number-clause-same_reference g c = c.in_err-number.ensures.same_reference ∙ c.take_numbers.ensures.same_reference ∙ c.loop-number.invariant.same_reference
-
-pub returns-in_err-line-clause-same_reference : goal.returns-in_err-line-clause-same_reference
-returns-in_err-line-clause-same_reference g c = c.in_err-line.ensures.same_reference ∙ c.take_numbers.ensures.same_reference ∙ c.loop-number.invariant.same_reference
-
-pub returns-in_err-take_line-in-Line-clause-same_reference : goal.returns-in_err-take_line-in-Line-clause-same_reference
-returns-in_err-take_line-in-Line-clause-same_reference g c = c.in_ok-line.ensures.same_reference ∙ c.take_numbers.ensures.same_reference ∙ c.loop-number.invariant.same_reference
-
-pub returns-in_err-take_line-in-Last-clause-same_reference : goal.returns-in_err-take_line-in-Last-clause-same_reference
-returns-in_err-take_line-in-Last-clause-same_reference g c = c.in_ok-line.ensures.same_reference ∙ c.take_numbers.ensures.same_reference ∙ c.loop-number.invariant.same_reference
-
-pub returns-in-Last-clause-same_reference : goal.returns-in-Last-clause-same_reference
-returns-in-Last-clause-same_reference g c = c.in_ok-line.ensures.same_reference ∙ c.take_numbers.ensures.same_reference ∙ c.loop-number.invariant.same_reference
-
-pub returns-in-End-clause-same_reference : goal.returns-in-End-clause-same_reference
-returns-in-End-clause-same_reference g c = c.in_ok-line.ensures.same_reference ∙ c.take_numbers.ensures.same_reference ∙ c.loop-number.invariant.same_reference
-
-pub returns-in_err-take_values-clause-same_intake : goal.returns-in_err-take_values-clause-same_intake
-returns-in_err-take_values-clause-same_intake g c = c.take_numbers.ensures.same_intake ∙ c.loop-number.invariant.same_intake
-
-pub returns-in_err-number-clause-same_intake : goal.returns-in_err-number-clause-same_intake
-returns-in_err-number-clause-same_intake g c = c.in_err-number.ensures.same_intake ∙ c.take_numbers.ensures.same_intake ∙ c.loop-number.invariant.same_intake
-
-pub returns-in_err-line-clause-same_intake : goal.returns-in_err-line-clause-same_intake
-returns-in_err-line-clause-same_intake g c = c.in_err-line.ensures.same_intake ∙ c.take_numbers.ensures.same_intake ∙ c.loop-number.invariant.same_intake
-
-pub returns-in_err-take_line-in-Line-clause-same_intake : goal.returns-in_err-take_line-in-Line-clause-same_intake
-returns-in_err-take_line-in-Line-clause-same_intake g c = c.in_ok-line.ensures.same_intake ∙ c.take_numbers.ensures.same_intake ∙ c.loop-number.invariant.same_intake
-
-pub returns-in_err-take_line-in-Last-clause-same_intake : goal.returns-in_err-take_line-in-Last-clause-same_intake
-returns-in_err-take_line-in-Last-clause-same_intake g c = c.in_ok-line.ensures.same_intake ∙ c.take_numbers.ensures.same_intake ∙ c.loop-number.invariant.same_intake
-
-pub returns-in-Last-clause-same_intake : goal.returns-in-Last-clause-same_intake
-returns-in-Last-clause-same_intake g c = c.in_ok-line.ensures.same_intake ∙ c.take_numbers.ensures.same_intake ∙ c.loop-number.invariant.same_intake
-
-pub returns-in-End-clause-same_intake : goal.returns-in-End-clause-same_intake
-returns-in-End-clause-same_intake g c = c.in_ok-line.ensures.same_intake ∙ c.take_numbers.ensures.same_intake ∙ c.loop-number.invariant.same_intake
+pub close_batch-requires : goal.close_batch-requires
+close_batch-requires g c = next_ready c.args.target.faults c.args.target.file.now (c.loop-session.number + 1) c.loop-session.session c.take_next.new.session (Ok false) c.loop-session.invariant.taking.ready (rw c.if-branch.false at c.in_ok-take_next.ensures.next)
