@@ -1,9 +1,10 @@
 //! The program `h5swmr`: it makes a source and a sink of the standard streams and a disk of the files, and runs what its words ask for.
 #![tactic(auto)]
 
-use h5w_commands::{FileDisk, StdSink, StdSource, run};
+use h5w_commands::run;
 use h5w_image::OpenGate;
 use h5w_running::Ended;
+use h5w_system::{FileDisk, StdSink, StdSource};
 use h5w_text::{ErrorLine, say_line};
 use std::alloc::AllocError;
 use std::env;

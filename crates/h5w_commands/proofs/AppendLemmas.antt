@@ -10,7 +10,7 @@ use Rattle.h5w_text.specs.declared.status.Status.TheVariants as statuses
 use Rattle.h5w_appending.specs.Appends.{AppendEnds}
 use Rattle.h5w_appending.specs.Tells.{TellsEnd}
 use Rattle.h5w_appending.proofs.TellLemmas.{tells_end}
-use Rattle.h5w_several_appending.specs.Tells.{SeveralTells}
+use Rattle.h5w_several_appending.specs.Tells.{SeveralEnds}
 use Rattle.h5w_several_appending.proofs.OuterLemmas.{several_tells_end}
 use Rattle.h5w_several_open.specs.declared.beginning.Beginning.{Beginning}
 use Rattle.h5w_commands.specs.Appending.{AppendTells, AppendTellsInside, AppendTellsWhole, only_of}
@@ -46,7 +46,7 @@ only_told by s t k l v w file (x ∷ y ∷ names) name limit budget keeps status
 
 -- several
 pub several_told : (by : Beginning) (s t : SourceView) (k l : SinkView) (v w : DiskView) (file : List ℕ) (names : List (List ℕ)) (limit budget : ℕ) (keeps : Bool) (status : Status) → None ≡ only_of names
-    → SeveralTells by file names limit s t v w status k l → AppendTellsInside by file names limit budget keeps s t v w status k l
+    → SeveralEnds by file names limit s t v w status k l → AppendTellsInside by file names limit budget keeps s t v w status k l
 several_told by s t k l v w file [] limit budget keeps status is told = told
 several_told by s t k l v w file (x ∷ []) limit budget keeps status is told = absurd (cc)
 several_told by s t k l v w file (x ∷ y ∷ names) limit budget keeps status is told = told

@@ -18,7 +18,7 @@ use Rattle.h5w_running.proofs.EndLemmas.{ends_well}
 use Rattle.h5w_repacking.proofs.EndLemmas.{repacks_whole}
 use Rattle.h5w_commands.specs.Runs.{DoesInside, DoesWhole, EndsWith, RanInside, RanWhole}
 use Rattle.h5w_commands.proofs.MakeLemmas.{makes_whole}
-use Rattle.h5w_commands.proofs.ReportLemmas.{stops_whole}
+use Rattle.h5w_stopping.proofs.ReportLemmas.{stops_whole}
 use Rattle.h5w_commands.specs.Appending.{beginning_of}
 use Rattle.h5w_commands.proofs.AppendLemmas.{append_whole}
 use Rattle.h5w_text.specs.declared.status.Status.{Status}

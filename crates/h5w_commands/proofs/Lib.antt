@@ -5,10 +5,6 @@ mod MakeLemmas
 mod AppendEndLemmas
 mod SeveralEndLemmas
 mod AppendLemmas
-mod ShowingLemmas
-mod WritingLemmas
-mod TakingLemmas
-mod ReportLemmas
 mod InsideLemmas
 mod NewLemmas
 mod NameLemmas

@@ -29,13 +29,13 @@ use Rattle.h5w_several_batches.specs.SetInputs.{AreSaid}
 use Rattle.h5w_several_batches.specs.declared.line.SetLine.{SetLine}
 use Rattle.h5w_several_batches.specs.declared.line.SetLine.TheVariants.{Numbers, Use}
 use Rattle.h5w_several_appending.specs.Taken.{SetBatches, after_all, after_said, after_values, close_each, columns_of, end_each, no_sets, none_waits, rows_with}
-use Rattle.h5w_several_appending.specs.Tells.{AtLine, IsWhy, SeveralTells, TellsNone, TellsSome, TellsTo, TellsUpTo, TellsWhy, Unopened, of_line, of_range, of_chunks, of_room, of_depth, of_input, of_source, of_memory}
+use Rattle.h5w_several_appending.specs.Tells.{AtLine, IsWhy, SeveralEnds, TellsNone, TellsSome, TellsTo, TellsUpTo, TellsWhy, Unopened, of_line, of_range, of_chunks, of_room, of_depth, of_input, of_source, of_memory}
 use Rattle.h5w_several_open.specs.declared.beginning.Beginning.{Beginning}
 use Rattle.h5w_commands.specs.Appending.{AllSay, HasSeveralInput, IsWithin, SeveralEndsWell}
 use Rattle.h5w_commands.proofs.AppendEndLemmas.{at_file, first_lines, known}
 
 -- memory was wanting before the file was looked at
-pub several_nothing : {s : SourceView} {v : DiskView} {k l : SinkView} {by : Beginning} (name : List ℕ) (names : List (List ℕ)) (limit : ℕ) (status : Status) → Said (error_text errors.Memory) statuses.Memory status k l → SeveralTells by name names limit s s v v status k l
+pub several_nothing : {s : SourceView} {v : DiskView} {k l : SinkView} {by : Beginning} (name : List ℕ) (names : List (List ℕ)) (limit : ℕ) (status : Status) → Said (error_text errors.Memory) statuses.Memory status k l → SeveralEnds by name names limit s s v v status k l
 several_nothing {s = s} {v = v} {k = k} name names limit status said = inl (record {
   answer = Err errors.Memory;
   front = [];
@@ -141,7 +141,7 @@ tells_ends : {name : List ℕ} {names : List (List ℕ)} {s : SourceView} {v : D
 tells_ends limit t w front last h source disk (Ok a) p = inl refl
 tells_ends limit t w front last h source disk (Err e) p = inr (error_ends limit t w front last h source disk e p)
 
-pub several_whole : {s t : SourceView} {k l : SinkView} {v w : DiskView} {by : Beginning} (name : List ℕ) (names : List (List ℕ)) (limit : ℕ) (status : Status) → SeveralTells by name names limit s t v w status k l → SeveralEndsWell by name names status s t k l v w
+pub several_whole : {s t : SourceView} {k l : SinkView} {v w : DiskView} {by : Beginning} (name : List ℕ) (names : List (List ℕ)) (limit : ℕ) (status : Status) → SeveralEnds by name names limit s t v w status k l → SeveralEndsWell by name names status s t k l v w
 several_whole {s = s} {t = t} {k = k} {l = l} {v = v} {w = w} {by = by} name names limit status e = λ h source sink disk. go h source sink disk e
   where
     spoken : HasSeveralInput by name names s v → (Rose s.faults t.faults → ⊥) → (Rose k.faults l.faults → ⊥) → (Rose v.faults w.faults → ⊥) → (p : EndsBehind {A = Unit {0}} (TellsTo by name names limit s t v w) status k l)
@@ -149,7 +149,7 @@ several_whole {s = s} {t = t} {k = k} {l = l} {v = v} {w = w} {by = by} name nam
     spoken h source sink disk p (failed is rose some) = absurd (sink (rose_before k.faults p.middle.faults l.faults p.gave.faults rose))
     spoken h source sink disk p (whole is gave) = known status (status_by p.answer) is (tells_ends limit t w p.front p.last h source disk p.answer p.comes)
 
-    go : HasSeveralInput by name names s v → (Rose s.faults t.faults → ⊥) → (Rose k.faults l.faults → ⊥) → (Rose v.faults w.faults → ⊥) → SeveralTells by name names limit s t v w status k l
+    go : HasSeveralInput by name names s v → (Rose s.faults t.faults → ⊥) → (Rose k.faults l.faults → ⊥) → (Rose v.faults w.faults → ⊥) → SeveralEnds by name names limit s t v w status k l
         → (status ≡ statuses.Done) ⊎ ((status ≡ statuses.Limit) ⊎ (status ≡ statuses.Memory))
     go h source sink disk (inl p) = spoken h source sink disk p p.said
     go h source sink disk (inr cut) = let stops = cut.1.stops in absurd (sink (rose_before k.faults stops.middle.faults l.faults stops.gave.faults stops.rose))

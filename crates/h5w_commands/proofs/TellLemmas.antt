@@ -27,7 +27,7 @@ use Rattle.h5w_text.specs.declared.status.Status.TheVariants.{Usage, Memory}
 use Rattle.h5w_commands.proofs.MakeLemmas.{makes_nothing}
 use Rattle.h5w_commands.specs.Appending.{beginning_of}
 use Rattle.h5w_commands.proofs.AppendLemmas.{none_appended}
-use Rattle.h5w_commands.proofs.ReportLemmas.{stops_nothing}
+use Rattle.h5w_stopping.proofs.ReportLemmas.{stops_nothing}
 use Rattle.h5w_playing.proofs.EndLemmas.{plays_nothing}
 
 -- memory was refused before the words were known

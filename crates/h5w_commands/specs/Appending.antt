@@ -25,7 +25,7 @@ use Rattle.h5w_several_batches.specs.declared.line.SetLine.{SetLine}
 use Rattle.h5w_several_batches.specs.declared.line.SetLine.TheVariants.{Numbers, Use}
 use Rattle.h5w_several_appending.specs.Taken.{columns_of}
 use Rattle.h5w_several_appending.specs.Ends.{SeveralTellsEnd}
-use Rattle.h5w_several_appending.specs.Tells.{SeveralTells}
+use Rattle.h5w_several_appending.specs.Tells.{SeveralEnds}
 
 -- how a session begins: it takes the file over where that is asked for
 abbrev pub beginning_of : Bool → Beginning
@@ -101,7 +101,7 @@ AppendTells by file names limit s t v w status k l = SeveralTellsEnd by file nam
 -- the same by the state of the session, too
 abbrev pub AppendTellsInside : Beginning → List ℕ → List (List ℕ) → (limit budget : ℕ) → Bool → SourceView → SourceView → DiskView → DiskView → Status → SinkView → SinkView → Type 0
 AppendTellsInside by file (name ∷ []) limit budget keeps s t v w status k l = AppendEnds by file name limit budget keeps s t v w status k l
-AppendTellsInside by file names limit budget keeps s t v w status k l = SeveralTells by file names limit s t v w status k l
+AppendTellsInside by file names limit budget keeps s t v w status k l = SeveralEnds by file names limit s t v w status k l
 
 -- that it ends well
 abbrev pub AppendTellsWhole : Beginning → List ℕ → List (List ℕ) → Status → SourceView → SourceView → SinkView → SinkView → DiskView → DiskView → Type 0

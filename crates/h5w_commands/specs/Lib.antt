@@ -13,13 +13,9 @@ pub use Rattle.h5w_files.specs.Clears
 pub use Rattle.h5w_appending.specs.Appends
 pub use Rattle.h5w_words.specs.Commands
 pub use Rattle.h5w_words.specs.Limits
-pub use Rattle.h5w_core.specs.Worlds
 pub use Rattle.h5w_playing.specs.Plays
 pub use Rattle.h5w_playing.specs.Starts
-pub mod Edges
 pub mod Makes
-pub mod Writing
-pub mod Stops
 pub mod Appending
 pub mod Runs
 pub mod News

@@ -25,13 +25,22 @@ use Rattle.h5w_running.specs.declared.ended.Ended.{Ended}
 use Rattle.h5w_running.specs.declared.ended.Ended.TheVariants as ends
 use Rattle.h5w_playing.specs.Starts.{PlayEnds, PlayEndsWell}
 use Rattle.h5w_commands.specs.Makes.{MakeEnds, MakeEndsWell}
-use Rattle.h5w_commands.specs.Stops.{StopEnds, StopEndsWell, StopTells}
+use Rattle.h5w_stopping.specs.Stops.{StopEnds, StopEndsWell, StopTells}
 use Rattle.h5w_commands.specs.Appending.{AppendTells, AppendTellsInside, AppendTellsWhole, beginning_of}
 
 -- the job waits for nobody
 abbrev pub IsPlain : Job → Type 0
 IsPlain (Live options readers polls attempts mirrors) = ⊥
 IsPlain job = Unit {0}
+
+-- the job is one of files, and reads no input
+abbrev pub IsOfFile : Job → Type 0
+IsOfFile (New file names options) = Unit {0}
+IsOfFile (Check file names) = Unit {0}
+IsOfFile (Poll file name times attempts values) = Unit {0}
+IsOfFile (Clear file upgrade) = Unit {0}
+IsOfFile (Repack file to names limit ranges) = Unit {0}
+IsOfFile job = ⊥
 
 -- What a job that waits for nobody leaves of source, sink and disk. A script leaves the disk as it is, be it of readers
 -- or of a writer alone; of the commands on files an append alone reads, and the making of a file in memory leaves both.

@@ -19,7 +19,7 @@ fn only(names: &Names) -> Option<&[u8]>
 }
 
 /// How a session begins: it takes the file over where that is asked for.
-fn beginning_of(takes: bool) -> Beginning
+pub fn beginning_of(takes: bool) -> Beginning
     ensures { result ≡ beginning_of takes }
 {
     if takes {
@@ -29,39 +29,27 @@ fn beginning_of(takes: bool) -> Beginning
     }
 }
 
-/// Appends the numbers of the source to datasets of the file of the name `file`, those that the root group's links of
-/// these names lead to: to the one dataset, or to the one that a line `use` named last, at first the first. What becomes
-/// of its lines, and of the rest, is as [`h5w_appending::append`] says of one name, and [`h5w_several_appending::append`]
-/// of more. The file is opened, or taken over from a session that left it.
+/// Appends the numbers of the source to datasets of the file of these terms, those that the root group's links of these
+/// names lead to: to the one dataset, or to the one that a line `use` named last, at first the first. What becomes of its
+/// lines, and of the rest, is as [`h5w_appending::append`] says of one name, and [`h5w_several_appending::append`] of
+/// more. The file is opened, or taken over from a session that left it.
 pub fn append<S: Source, K: Sink, D: Disk>(
     alloc: Global,
-    file: &str,
+    terms: Terms<'_>,
     names: &Names,
-    limit: u64,
-    budget: u64,
-    keeps: bool,
-    takes: bool,
     source: &mut S,
     sink: &mut K,
     disk: &mut D,
 ) -> Status
     requires names { are_link_names names.now ≡ true }
-    requires low { 1024 * length names.now ≤ limit }
-    requires high { limit ≤ 2 ^ 40 }
-    requires budget { (1024 ≤ budget) × (budget ≤ 2 ^ 30) }
-    ensures tells { AppendTells (beginning_of takes) file.now names.now limit (S.view source.old) (S.view source.new) (D.view disk.old) (D.view disk.new) result (K.view sink.old) (K.view sink.new) }
-    ensures inside { AppendTellsInside (beginning_of takes) file.now names.now limit budget keeps (S.view source.old) (S.view source.new) (D.view disk.old) (D.view disk.new) result (K.view sink.old) (K.view sink.new) }
-    ensures completes { AppendTellsWhole (beginning_of takes) file.now names.now result (S.view source.old) (S.view source.new) (K.view sink.old) (K.view sink.new) (D.view disk.old) (D.view disk.new) }
+    requires low { 1024 * length names.now ≤ terms.limit }
+    requires high { terms.limit ≤ 2 ^ 40 }
+    requires budget { (1024 ≤ terms.budget) × (terms.budget ≤ 2 ^ 30) }
+    ensures tells { AppendTells terms.entry.by terms.entry.file.now names.now terms.entry.limit (S.view source.old) (S.view source.new) (D.view disk.old) (D.view disk.new) result (K.view sink.old) (K.view sink.new) }
+    ensures inside { AppendTellsInside terms.entry.by terms.entry.file.now names.now terms.entry.limit terms.entry.budget terms.entry.keeps (S.view source.old) (S.view source.new) (D.view disk.old) (D.view disk.new) result (K.view sink.old) (K.view sink.new) }
+    ensures completes { AppendTellsWhole terms.entry.by terms.entry.file.now names.now result (S.view source.old) (S.view source.new) (K.view sink.old) (K.view sink.new) (D.view disk.old) (D.view disk.new) }
     ensures source { SameSource (S.view source.old) (S.view source.new) }
 {
-    let by = beginning_of(takes);
-    let terms = Terms {
-        by,
-        file,
-        limit,
-        budget,
-        keeps,
-    };
     match only(names) {
         Some(name) => h5w_appending::append(alloc, terms, name, source, sink, disk),
         None => h5w_several_appending::append(alloc, terms, names, source, sink, disk),

@@ -1,18 +1,18 @@
-//! The commands of the program, over any source, sink and disk: [`run`] does what words ask for. Its edge to the system is the standard
-//! streams as a source and a sink, and the files as a disk.
+//! The commands of the program, over any source, sink and disk: [`run`] does what words ask for. Each command has a file of its name, which
+//! hands what the words give to its engine.
 #![tactic(auto)]
 
 mod append;
-mod disk;
+mod check;
+mod clear;
+mod live;
 mod make;
 mod new;
 mod plain;
 mod play;
+mod poll;
 mod program;
+mod repack;
 mod stop;
-mod streams;
-mod writing;
 
-pub use disk::FileDisk;
 pub use program::run;
-pub use streams::{StdSink, StdSource};

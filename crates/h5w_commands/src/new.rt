@@ -1,5 +1,5 @@
 //! The command that makes a file.
-ghost use Rattle.std.specs.Prelude.{◌≡◌, ◌*◌, ◌≤◌, true, length};
+ghost use Rattle.std.specs.Prelude.{◌≡◌, true};
 ghost use Rattle.h5w_options.specs.Options.{AreOptions};
 ghost use Rattle.h5w_files.specs.Ends.{EndsWell};
 ghost use Rattle.h5w_several_creation_laws.specs.SeveralFiles.{end_of};

@@ -4,9 +4,10 @@ ghost use Rattle.h5w_words.specs.Commands.{job_of};
 ghost use Rattle.h5w_batches.specs.Inputs.{SameSource};
 ghost use Rattle.h5w_commands.specs.Runs.{Ran, RanInside, RanWhole};
 
+use crate::live::{Readers, live};
 use crate::plain::plain;
 use h5w_image::{Disk, Gate};
-use h5w_running::{Ended, run_live};
+use h5w_running::Ended;
 use h5w_text::{ErrorLine, Sink, Source, say_line};
 use h5w_words::{Job, WordsError, read_words};
 use std::alloc::Global;
@@ -42,9 +43,15 @@ pub fn run<R: Threads + Wait + Sync, S: Source, K: Sink, D: Disk, G: Gate>(
                 attempts,
                 mirrors,
             },
-        ) => run_live(
-            rt, alloc, &options, readers, polls, attempts, mirrors, source, sink, gate,
-        ),
+        ) => {
+            let readers = Readers {
+                count: readers,
+                polls,
+                attempts,
+                mirrors,
+            };
+            live(rt, alloc, &options, readers, source, sink, gate)
+        }
         Ok(job) => {
             let status = plain(alloc, &job, source, sink, disk);
             release(job);

@@ -7,8 +7,10 @@ mod clearing;
 mod flags;
 mod image;
 mod polling;
+mod polls;
 
 pub use checking::check;
 pub use clearing::clear;
 pub use image::DiskImage;
 pub use polling::poll;
+pub use polls::Polls;

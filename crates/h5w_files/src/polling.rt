@@ -14,6 +14,7 @@ ghost use Rattle.h5w_files.specs.Polls.{PollEnds, count_text, poll_of, values_te
 
 use crate::answering::answered;
 use crate::image::DiskImage;
+use crate::polls::Polls;
 use h5w_image::{Disk, Failed, PieceRead};
 use h5w_model::{OutOfMemory, ReadError, Values};
 use h5w_reader::{ReadBegin, ReaderCore, Step};
@@ -257,75 +258,75 @@ fn refresh(reader: &mut ReaderCore)
     }
 }
 
-/// Makes so many calls of a new reader, the first of which has begun.
+/// Makes the calls of a new reader, the first of which has begun.
 fn write_times<I: PieceRead, K: Sink>(
     alloc: Global,
     reader: &mut ReaderCore,
     image: &mut I,
-    times: u64,
-    values: bool,
+    polls: Polls,
     sink: &mut K,
 ) -> Result<(), Ending>
     requires begun { IsSome (wanted (cores.reader reader.old).left) }
     requires call { IsForRows (cores.reader reader.old).left }
     requires fresh { HasJustBegun (cores.reader reader.old) }
-    requires some { 1 ≤ times }
+    requires some { 1 ≤ polls.times }
     ensures looked { Looked (I.view image.old) (I.view image.new) }
-    ensures gives { TimesGive times values (I.view image.old) (I.view image.new) (cores.reader reader.old) result (K.view sink.old) (K.view sink.new) }
+    ensures gives { TimesGive polls.times polls.values (I.view image.old) (I.view image.new) (cores.reader reader.old) result (K.view sink.old) (K.view sink.new) }
 {
-    let mut printed = write_once(alloc, reader, image, values, 0, sink)?;
-    for _ in 1..times {
+    let mut printed = write_once(alloc, reader, image, polls.values, 0, sink)?;
+    for _ in 1..polls.times {
         refresh(reader);
-        printed = write_once(alloc, reader, image, values, printed, sink)?;
+        printed = write_once(alloc, reader, image, polls.values, printed, sink)?;
     }
     Ok(())
 }
+
+/// Lets a reader go. It has many parts, and each place that lets it go is dear to prove.
+fn release(_reader: ReaderCore) {}
 
 /// Polls the file of the name `file`, whose errors are not told yet.
 fn polled<K: Sink, D: Disk>(
     alloc: Global,
     file: &str,
     name: &[u8],
-    times: u64,
-    attempts: u32,
-    values: bool,
+    polls: Polls,
     sink: &mut K,
     disk: &mut D,
 ) -> Result<(), Ending>
-    requires { 1 ≤ times }
-    ensures { PollGives file.now name.now times attempts values (D.view disk.old) (D.view disk.new) result (K.view sink.old) (K.view sink.new) }
+    requires { 1 ≤ polls.times }
+    ensures { PollGives file.now name.now polls.times polls.attempts polls.values (D.view disk.old) (D.view disk.new) result (K.view sink.old) (K.view sink.new) }
 {
     match disk.size(file) {
         Ok(Some(_)) => {}
         Ok(None) => return Err(Ending::Error(ErrorLine::Missing)),
         Err(_) => return Err(Ending::Error(ErrorLine::Disk)),
     }
-    let Ok(mut reader) = ReaderCore::open(alloc, name, attempts) else {
+    let Ok(mut reader) = ReaderCore::open(alloc, name, polls.attempts) else {
         return Err(Ending::Error(ErrorLine::Memory));
     };
     let mut image = DiskImage { disk, name: file };
-    write_times(alloc, &mut reader, &mut image, times, values, sink)
+    let written = write_times(alloc, &mut reader, &mut image, polls, sink);
+    release(reader);
+    written
 }
 
-/// Opens the dataset that the root group's link of `name` leads to in the file of the name `file`, and refreshes it `times` less
-/// one times. Writes how many rows each of these calls finds before the next begins, and where `values` is set, behind it each row
+/// Opens the dataset that the root group's link of `name` leads to in the file of the name `file`, and refreshes it until `polls` has its
+/// `times` of calls. Writes how many rows each of these calls finds before the next begins, and where `values` is set, behind it each row
 /// that was not written yet. A file system may show a write half done: a call whose refusal may come of it is begun anew until it took
 /// 50,000 looks. Rows show that number, since a look leaves no trace that a clause could count.
 pub fn poll<K: Sink, D: Disk>(
     alloc: Global,
     file: &str,
     name: &[u8],
-    times: u64,
-    attempts: u32,
-    values: bool,
+    polls: Polls,
     sink: &mut K,
     disk: &mut D,
 ) -> Status
-    requires { 1 ≤ times }
-    ensures completes { EndsWell (poll_of (reader_rules name.now attempts) values) file.now (D.view disk.old) (D.view disk.new) result (K.view sink.old) (K.view sink.new) }
-    ensures polls { PollEnds file.now name.now times attempts values (D.view disk.old) (D.view disk.new) result (K.view sink.old) (K.view sink.new) }
+    requires { 1 ≤ polls.times }
+    ensures completes { EndsWell (poll_of (reader_rules name.now polls.attempts) polls.values) file.now (D.view disk.old) (D.view disk.new) result (K.view sink.old) (K.view sink.new) }
+    ensures polls { PollEnds file.now name.now polls.times polls.attempts polls.values (D.view disk.old) (D.view disk.new) result (K.view sink.old) (K.view sink.new) }
 {
-    match polled(alloc, file, name, times, attempts, values, sink, disk) {
+    match polled(alloc, file, name, polls, sink, disk) {
         Ok(()) => Status::Done,
         Err(Ending::Error(error)) => tell(alloc, &error, sink),
         Err(Ending::Sink) => Status::Sink,

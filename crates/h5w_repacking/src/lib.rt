@@ -2,7 +2,9 @@
 #![tactic(auto)]
 
 mod repacking;
+mod rewrite;
 mod two_files;
 
 pub use repacking::repack;
+pub use rewrite::Rewrite;
 pub use two_files::TwoFiles;

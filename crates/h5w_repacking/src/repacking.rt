@@ -8,6 +8,7 @@ ghost use Rattle.h5w_repack.specs.Packed.{ArePacks};
 ghost use Rattle.h5w_repacking.specs.Repacks.{CopiesTo, MakesNew, PacksTo, PlansTo, RepackEnds, RepackEndsWell, RepackedTo, SurveysTo, WritesTo, end_text, is_chunk, line_of_copy, line_of_plan, line_of_survey, packed_text, ranges_text};
 ghost use Rattle.h5w_repacking.specs.Tells.{RepackTells};
 
+use crate::rewrite::Rewrite;
 use crate::two_files::TwoFiles;
 use h5w_files::DiskImage;
 use h5w_image::{Disk, MakeError};
@@ -193,91 +194,80 @@ fn planned(alloc: Global, found: &[Source], limit: u64) -> Result<Packing, Error
 /// Fills the new file, which is there without bytes, by a plan. `text` gets the lines before anything is written.
 fn fill<D: Disk>(
     packing: &mut Packing,
-    file: &str,
-    to: &str,
-    ranges: bool,
+    rewrite: Rewrite<'_>,
     text: &mut Vec<u8>,
     disk: &mut D,
 ) -> Result<(), ErrorLine>
-    requires from { IsThere (D.view disk.old) file.now }
-    requires to { IsThere (D.view disk.old) to.now }
-    requires apart { IfSome (D.view disk.old).told (λ d. file.now ≢ to.now) }
+    requires from { IsThere (D.view disk.old) rewrite.file.now }
+    requires to { IsThere (D.view disk.old) rewrite.to.now }
+    requires apart { IfSome (D.view disk.old).told (λ d. rewrite.file.now ≢ rewrite.to.now) }
     requires prepared { IsPrepared packing.old }
     requires empty { text.old.items ≡ [] }
-    ensures copies { CopiesTo file.now to.now packing.old.left (D.view disk.old) (D.view disk.new) result }
-    ensures text { OnOk result (text.new.items ≡ packed_text ranges packing.old.end packing.old.ranges) }
+    ensures copies { CopiesTo rewrite.entry.file.now rewrite.entry.to.now packing.old.left (D.view disk.old) (D.view disk.new) result }
+    ensures text { OnOk result (text.new.items ≡ packed_text rewrite.entry.ranges packing.old.end packing.old.ranges) }
 {
-    if write_packed(packing, ranges, text).is_err() {
+    if write_packed(packing, rewrite.ranges, text).is_err() {
         return Err(ErrorLine::Memory);
     }
-    copied(packing, file, to, disk)
+    copied(packing, rewrite.file, rewrite.to, disk)
 }
 
 /// Plans the new file, which is there without bytes, and fills it.
 fn written<D: Disk>(
     alloc: Global,
     found: &[Source],
-    file: &str,
-    to: &str,
-    limit: u64,
-    ranges: bool,
+    rewrite: Rewrite<'_>,
     text: &mut Vec<u8>,
     disk: &mut D,
 ) -> Result<(), ErrorLine>
     requires sources { AreSources found.now }
-    requires low { 1024 * length found.now ≤ limit }
-    requires high { limit ≤ 2 ^ 40 }
-    requires from { IsThere (D.view disk.old) file.now }
-    requires to { IsThere (D.view disk.old) to.now }
-    requires apart { IfSome (D.view disk.old).told (λ d. file.now ≢ to.now) }
+    requires low { 1024 * length found.now ≤ rewrite.limit }
+    requires high { rewrite.limit ≤ 2 ^ 40 }
+    requires from { IsThere (D.view disk.old) rewrite.file.now }
+    requires to { IsThere (D.view disk.old) rewrite.to.now }
+    requires apart { IfSome (D.view disk.old).told (λ d. rewrite.file.now ≢ rewrite.to.now) }
     requires empty { text.old.items ≡ [] }
-    ensures { WritesTo file.now to.now limit ranges found.now (D.view disk.old) (D.view disk.new) text.new.items result }
+    ensures { WritesTo rewrite.entry.file.now rewrite.entry.to.now rewrite.entry.limit rewrite.entry.ranges found.now (D.view disk.old) (D.view disk.new) text.new.items result }
 {
-    let mut packing = planned(alloc, found, limit)?;
-    fill(&mut packing, file, to, ranges, text, disk)
+    let mut packing = planned(alloc, found, rewrite.limit)?;
+    fill(&mut packing, rewrite, text, disk)
 }
 
 /// Makes the new file, plans it, and fills it.
 fn packed<D: Disk>(
     alloc: Global,
     found: &[Source],
-    file: &str,
-    to: &str,
-    limit: u64,
-    ranges: bool,
+    rewrite: Rewrite<'_>,
     text: &mut Vec<u8>,
     disk: &mut D,
 ) -> Result<(), ErrorLine>
     requires sources { AreSources found.now }
-    requires low { 1024 * length found.now ≤ limit }
-    requires high { limit ≤ 2 ^ 40 }
-    requires from { IsThere (D.view disk.old) file.now }
+    requires low { 1024 * length found.now ≤ rewrite.limit }
+    requires high { rewrite.limit ≤ 2 ^ 40 }
+    requires from { IsThere (D.view disk.old) rewrite.file.now }
     requires empty { text.old.items ≡ [] }
-    ensures { PacksTo file.now to.now limit ranges found.now (D.view disk.old) (D.view disk.new) text.new.items result }
+    ensures { PacksTo rewrite.entry.file.now rewrite.entry.to.now rewrite.entry.limit rewrite.entry.ranges found.now (D.view disk.old) (D.view disk.new) text.new.items result }
 {
-    make(to, disk)?;
-    written(alloc, found, file, to, limit, ranges, text, disk)
+    make(rewrite.to, disk)?;
+    written(alloc, found, rewrite, text, disk)
 }
 
 /// Writes the datasets anew, and puts what is told of them into `text`.
 fn repacked<D: Disk>(
     alloc: Global,
-    file: &str,
-    to: &str,
+    rewrite: Rewrite<'_>,
     names: &Names,
-    limit: u64,
-    ranges: bool,
     text: &mut Vec<u8>,
     disk: &mut D,
 ) -> Result<(), ErrorLine>
     requires names { ArePacks names.now }
-    requires low { 1024 * length names.now ≤ limit }
-    requires high { limit ≤ 2 ^ 40 }
+    requires low { 1024 * length names.now ≤ rewrite.limit }
+    requires high { rewrite.limit ≤ 2 ^ 40 }
     requires empty { text.old.items ≡ [] }
-    ensures { RepackedTo file.now to.now names.now limit ranges (D.view disk.old) (D.view disk.new) text.new.items result }
+    ensures { RepackedTo rewrite.entry.file.now rewrite.entry.to.now names.now rewrite.entry.limit rewrite.entry.ranges (D.view disk.old) (D.view disk.new) text.new.items result }
 {
-    let found = surveyed(alloc, file, names, disk)?;
-    packed(alloc, &found, file, to, limit, ranges, text, disk)
+    let found = surveyed(alloc, rewrite.file, names, disk)?;
+    packed(alloc, &found, rewrite, text, disk)
 }
 
 /// Writes the datasets that the root group's links of `names` lead to, in the file of the name `file`, into a new file of the name `to`, which
@@ -285,23 +275,20 @@ fn repacked<D: Disk>(
 #[tactic(auto, using(crate::proofs::EndLemmas::repacks_whole))]
 pub fn repack<K: Sink, D: Disk>(
     alloc: Global,
-    file: &str,
-    to: &str,
+    rewrite: Rewrite<'_>,
     names: &Names,
-    limit: u64,
-    ranges: bool,
     sink: &mut K,
     disk: &mut D,
 ) -> Status
     requires names { ArePacks names.now }
-    requires low { 1024 * length names.now ≤ limit }
-    requires high { limit ≤ 2 ^ 40 }
-    ensures tells { RepackTells file.now to.now names.now limit ranges (D.view disk.old) (D.view disk.new) result (K.view sink.old) (K.view sink.new) }
-    ensures repacks { RepackEnds file.now to.now names.now limit ranges (D.view disk.old) (D.view disk.new) result (K.view sink.old) (K.view sink.new) }
-    ensures completes { RepackEndsWell file.now to.now names.now (D.view disk.old) (D.view disk.new) result (K.view sink.old) (K.view sink.new) }
+    requires low { 1024 * length names.now ≤ rewrite.limit }
+    requires high { rewrite.limit ≤ 2 ^ 40 }
+    ensures tells { RepackTells rewrite.entry.file.now rewrite.entry.to.now names.now rewrite.entry.limit rewrite.entry.ranges (D.view disk.old) (D.view disk.new) result (K.view sink.old) (K.view sink.new) }
+    ensures repacks { RepackEnds rewrite.entry.file.now rewrite.entry.to.now names.now rewrite.entry.limit rewrite.entry.ranges (D.view disk.old) (D.view disk.new) result (K.view sink.old) (K.view sink.new) }
+    ensures completes { RepackEndsWell rewrite.entry.file.now rewrite.entry.to.now names.now (D.view disk.old) (D.view disk.new) result (K.view sink.old) (K.view sink.new) }
 {
     let mut text = Vec::new(alloc);
-    match repacked(alloc, file, to, names, limit, ranges, &mut text, disk) {
+    match repacked(alloc, rewrite, names, &mut text, disk) {
         Ok(()) => say(&text, Status::Done, sink),
         Err(error) => tell(alloc, &error, sink),
     }

@@ -1,6 +1,4 @@
-use Rattle.std.proofs.Common.{arith, subst}
-use Rattle.h5w_several_open.specs.declared.beginning.Beginning.{Beginning}
-use Rattle.h5w_commands.specs.Appending.{AppendTellsInside, beginning_of}
+use Rattle.std.proofs.Common.{arith}
 use Rattle.h5w_words.proofs.NameLemmas.{some_names}
 use Rattle.h5w_commands.proofs.AppendLemmas.{append_told, append_whole, only_told, several_told}
 use Rattle.h5w_commands.proofs.NameLemmas.{may_append, only_fits}
@@ -26,32 +24,30 @@ append-requires-in-None-clause-low g c = let counts = some_names c.args.names.no
 
 pub returns-in-Some-clause-inside : goal.returns-in-Some-clause-inside
 returns-in-Some-clause-inside g c =
-    subst (λ (b : Beginning). AppendTellsInside b c.args.file.now c.args.names.now c.args.limit c.args.budget c.args.keeps (g.S.Source.view c.args.source.now) (g.S.Source.view c.append.new.source) (g.D.Disk.view c.args.disk.now) (g.D.Disk.view c.append.new.disk) c.append.result (g.K.Sink.view c.args.sink.now) (g.K.Sink.view c.append.new.sink)) c.beginning_of-by.ensures
-    (only_told c.beginning_of-by.result (g.S.Source.view c.args.source.now) (g.S.Source.view c.append.new.source) (g.K.Sink.view c.args.sink.now) (g.K.Sink.view c.append.new.sink) (g.D.Disk.view c.args.disk.now) (g.D.Disk.view c.append.new.disk)
-    c.args.file.now c.args.names.now c.in-Some.name.now c.args.limit c.args.budget c.args.keeps c.append.result c.in-Some.ensures c.append.ensures.appends)
+    only_told c.args.terms.by (g.S.Source.view c.args.source.now) (g.S.Source.view c.append.new.source) (g.K.Sink.view c.args.sink.now) (g.K.Sink.view c.append.new.sink) (g.D.Disk.view c.args.disk.now) (g.D.Disk.view c.append.new.disk)
+    c.args.terms.file.now c.args.names.now c.in-Some.name.now c.args.terms.limit c.args.terms.budget c.args.terms.keeps c.append.result c.in-Some.ensures c.append.ensures.appends
 
 pub returns-in-Some-clause-tells : goal.returns-in-Some-clause-tells
 returns-in-Some-clause-tells g c =
-    append_told (beginning_of c.args.takes) (g.S.Source.view c.args.source.now) (g.S.Source.view c.append.new.source) (g.K.Sink.view c.args.sink.now) (g.K.Sink.view c.append.new.sink) (g.D.Disk.view c.args.disk.now) (g.D.Disk.view c.append.new.disk)
-    c.args.file.now c.args.names.now c.args.limit c.args.budget c.args.keeps c.append.result (returns-in-Some-clause-inside g c)
+    append_told c.args.terms.by (g.S.Source.view c.args.source.now) (g.S.Source.view c.append.new.source) (g.K.Sink.view c.args.sink.now) (g.K.Sink.view c.append.new.sink) (g.D.Disk.view c.args.disk.now) (g.D.Disk.view c.append.new.disk)
+    c.args.terms.file.now c.args.names.now c.args.terms.limit c.args.terms.budget c.args.terms.keeps c.append.result (returns-in-Some-clause-inside g c)
 
 pub returns-in-Some-clause-completes : goal.returns-in-Some-clause-completes
 returns-in-Some-clause-completes g c =
-    append_whole (beginning_of c.args.takes) (g.S.Source.view c.args.source.now) (g.S.Source.view c.append.new.source) (g.K.Sink.view c.args.sink.now) (g.K.Sink.view c.append.new.sink) (g.D.Disk.view c.args.disk.now) (g.D.Disk.view c.append.new.disk)
-    c.args.file.now c.args.names.now c.args.limit c.args.budget c.args.keeps c.append.result (returns-in-Some-clause-inside g c)
+    append_whole c.args.terms.by (g.S.Source.view c.args.source.now) (g.S.Source.view c.append.new.source) (g.K.Sink.view c.args.sink.now) (g.K.Sink.view c.append.new.sink) (g.D.Disk.view c.args.disk.now) (g.D.Disk.view c.append.new.disk)
+    c.args.terms.file.now c.args.names.now c.args.terms.limit c.args.terms.budget c.args.terms.keeps c.append.result (returns-in-Some-clause-inside g c)
 
 pub returns-in-None-clause-inside : goal.returns-in-None-clause-inside
 returns-in-None-clause-inside g c =
-    subst (λ (b : Beginning). AppendTellsInside b c.args.file.now c.args.names.now c.args.limit c.args.budget c.args.keeps (g.S.Source.view c.args.source.now) (g.S.Source.view c.append-in-None.new.source) (g.D.Disk.view c.args.disk.now) (g.D.Disk.view c.append-in-None.new.disk) c.append-in-None.result (g.K.Sink.view c.args.sink.now) (g.K.Sink.view c.append-in-None.new.sink)) c.beginning_of-by.ensures
-    (several_told c.beginning_of-by.result (g.S.Source.view c.args.source.now) (g.S.Source.view c.append-in-None.new.source) (g.K.Sink.view c.args.sink.now) (g.K.Sink.view c.append-in-None.new.sink) (g.D.Disk.view c.args.disk.now) (g.D.Disk.view c.append-in-None.new.disk)
-    c.args.file.now c.args.names.now c.args.limit c.args.budget c.args.keeps c.append-in-None.result c.in-None.ensures c.append-in-None.ensures.tells)
+    several_told c.args.terms.by (g.S.Source.view c.args.source.now) (g.S.Source.view c.append-in-None.new.source) (g.K.Sink.view c.args.sink.now) (g.K.Sink.view c.append-in-None.new.sink) (g.D.Disk.view c.args.disk.now) (g.D.Disk.view c.append-in-None.new.disk)
+    c.args.terms.file.now c.args.names.now c.args.terms.limit c.args.terms.budget c.args.terms.keeps c.append-in-None.result c.in-None.ensures c.append-in-None.ensures.ends
 
 pub returns-in-None-clause-tells : goal.returns-in-None-clause-tells
 returns-in-None-clause-tells g c =
-    append_told (beginning_of c.args.takes) (g.S.Source.view c.args.source.now) (g.S.Source.view c.append-in-None.new.source) (g.K.Sink.view c.args.sink.now) (g.K.Sink.view c.append-in-None.new.sink) (g.D.Disk.view c.args.disk.now) (g.D.Disk.view c.append-in-None.new.disk)
-    c.args.file.now c.args.names.now c.args.limit c.args.budget c.args.keeps c.append-in-None.result (returns-in-None-clause-inside g c)
+    append_told c.args.terms.by (g.S.Source.view c.args.source.now) (g.S.Source.view c.append-in-None.new.source) (g.K.Sink.view c.args.sink.now) (g.K.Sink.view c.append-in-None.new.sink) (g.D.Disk.view c.args.disk.now) (g.D.Disk.view c.append-in-None.new.disk)
+    c.args.terms.file.now c.args.names.now c.args.terms.limit c.args.terms.budget c.args.terms.keeps c.append-in-None.result (returns-in-None-clause-inside g c)
 
 pub returns-in-None-clause-completes : goal.returns-in-None-clause-completes
 returns-in-None-clause-completes g c =
-    append_whole (beginning_of c.args.takes) (g.S.Source.view c.args.source.now) (g.S.Source.view c.append-in-None.new.source) (g.K.Sink.view c.args.sink.now) (g.K.Sink.view c.append-in-None.new.sink) (g.D.Disk.view c.args.disk.now) (g.D.Disk.view c.append-in-None.new.disk)
-    c.args.file.now c.args.names.now c.args.limit c.args.budget c.args.keeps c.append-in-None.result (returns-in-None-clause-inside g c)
+    append_whole c.args.terms.by (g.S.Source.view c.args.source.now) (g.S.Source.view c.append-in-None.new.source) (g.K.Sink.view c.args.sink.now) (g.K.Sink.view c.append-in-None.new.sink) (g.D.Disk.view c.args.disk.now) (g.D.Disk.view c.append-in-None.new.disk)
+    c.args.terms.file.now c.args.names.now c.args.terms.limit c.args.terms.budget c.args.terms.keeps c.append-in-None.result (returns-in-None-clause-inside g c)

@@ -5,7 +5,7 @@ use Rattle.h5w_commands.proofs.program.run.Goals as goal
 
 pub returns-in-Ok-Live-clause-inside : goal.returns-in-Ok-Live-clause-inside
 returns-in-Ok-Live-clause-inside g c =
-    ran_live _ c.in-Ok-Live.field-0 c.in-Ok-Live.options c.in-Ok-Live.readers c.in-Ok-Live.polls c.in-Ok-Live.attempts c.in-Ok-Live.mirrors c.run_live.result _ _ _ _ _ c.in-Ok-Live.ensures.ok c.in-Ok-Live.field-0-is c.run_live.ensures.inside
+    ran_live _ c.in-Ok-Live.field-0 c.in-Ok-Live.options c.in-Ok-Live.readers c.in-Ok-Live.polls c.in-Ok-Live.attempts c.in-Ok-Live.mirrors c.live.result _ _ _ _ _ c.in-Ok-Live.ensures.ok c.in-Ok-Live.field-0-is c.live.ensures.inside
 
 pub returns-in-Ok-clause-inside : goal.returns-in-Ok-clause-inside
 returns-in-Ok-clause-inside g c = ran_job _ c.in-Ok.job _ _ _ _ _ _ _ c.in-Ok.ensures.ok c.plain-status.ensures.inside

@@ -16,11 +16,11 @@ packed-requires-clause-low g c = omega (arith, ap length c.deref.ensures.value, 
 pub returns-in_err-found : goal.returns-in_err-found
 returns-in_err-found g c =
     let is : c.from_residual.result ≡ Err c.in_err-found.field-0.0 = search rules in
-    rw is (repacks_refused {v = g.D.Disk.view c.args.disk.now} {w = g.D.Disk.view c.surveyed.new.disk} c.args.file.now c.args.to.now c.args.names.now c.args.limit c.in_err-found.field-0.0 c.in_err-found.ensures)
+    rw is (repacks_refused {v = g.D.Disk.view c.args.disk.now} {w = g.D.Disk.view c.surveyed.new.disk} c.args.rewrite.file.now c.args.rewrite.to.now c.args.names.now c.args.rewrite.limit c.in_err-found.field-0.0 c.in_err-found.ensures)
 
 pub returns : goal.returns
 returns g c =
     let v = g.D.Disk.view c.surveyed.new.disk in
     let w = g.D.Disk.view c.packed.new.disk in
-    repacks_found (g.D.Disk.view c.args.disk.now) v w c.args.file.now c.args.to.now c.args.names.now c.args.limit c.args.ranges c.in_ok-found.found c.packed.new.text.items c.in_ok-found.ensures c.packed.result
-    (subst (λ (l : List Source). PacksTo c.args.file.now c.args.to.now c.args.limit c.args.ranges l v w c.packed.new.text.items c.packed.result) c.deref.ensures.value c.packed.ensures)
+    repacks_found (g.D.Disk.view c.args.disk.now) v w c.args.rewrite.file.now c.args.rewrite.to.now c.args.names.now c.args.rewrite.limit c.args.rewrite.ranges c.in_ok-found.found c.packed.new.text.items c.in_ok-found.ensures c.packed.result
+    (subst (λ (l : List Source). PacksTo c.args.rewrite.file.now c.args.rewrite.to.now c.args.rewrite.limit c.args.rewrite.ranges l v w c.packed.new.text.items c.packed.result) c.deref.ensures.value c.packed.ensures)

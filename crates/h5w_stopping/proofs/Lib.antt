@@ -1,0 +1,5 @@
+mod ShowingLemmas
+mod WritingLemmas
+mod TakingLemmas
+pub mod ReportLemmas
+pub mod TellLemmas

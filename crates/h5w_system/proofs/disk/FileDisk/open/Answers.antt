@@ -1,0 +1,5 @@
+use Rattle.std.proofs.Common.{rules, refl}
+use Rattle.h5w_system.proofs.disk.FileDisk.open.Goals as goal
+
+pub returns-clause-kept : goal.returns-clause-kept
+returns-clause-kept c = record { file = _; is = refl; named = search rules; may = λ asked. asked }
