@@ -15,7 +15,7 @@ LINES, COLUMNS, WORDS = 200, 120, 40
 PAGES = ["ARCHITECTURE", "FORMAT", "DEFINITIONS", "DECISIONS", "PROMISES", "LIBRARY", "CONTRIBUTING", "WORDS", "PERFORMANCE"]
 
 # The crates whose sources spell what the program prints.
-SPELLING = ["h5w_text", "h5w_files", "h5w_repacking", "h5w_appending", "h5w_running", "h5w_commands", "h5w_cli"]
+SPELLING = ["h5w_text", "h5w_files", "h5w_repacking", "h5w_appending", "h5w_running", "h5w_stopping", "h5w_commands", "h5w_cli"]
 
 
 def read(name):
