@@ -1,5 +1,5 @@
 -- What an append leaves, by how many datasets it names.
-use Rattle.std.proofs.Common.{◌≡◌, ℕ, Bool, List, [], ◌∷◌, Option, Some, None, subst}
+use Rattle.std.proofs.Common.{◌≡◌, ℕ, Bool, List, [], ◌∷◌, Some, None, subst}
 use Rattle.h5w_image.specs.View.{DiskView}
 use Rattle.h5w_text.specs.Errors.{error_text}
 use Rattle.h5w_text.specs.Says.{Said}
@@ -8,7 +8,6 @@ use Rattle.h5w_text.specs.declared.error.ErrorLine.TheVariants as errors
 use Rattle.h5w_text.specs.declared.status.Status.{Status}
 use Rattle.h5w_text.specs.declared.status.Status.TheVariants as statuses
 use Rattle.h5w_appending.specs.Appends.{AppendEnds}
-use Rattle.h5w_appending.specs.Tells.{TellsEnd}
 use Rattle.h5w_appending.proofs.TellLemmas.{tells_end}
 use Rattle.h5w_several_appending.specs.Tells.{SeveralEnds}
 use Rattle.h5w_several_appending.proofs.OuterLemmas.{several_tells_end}

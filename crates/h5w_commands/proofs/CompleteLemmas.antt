@@ -1,5 +1,5 @@
 -- Jobs that end only when all is done, or for want of memory.
-use Rattle.std.proofs.Common.{ℕ, List, Option, Some, None}
+use Rattle.std.proofs.Common.{Option, Some, None}
 use Rattle.h5w_text.specs.Streams.{SourceView, SinkView}
 use Rattle.h5w_words.specs.declared.job.Job.{Job}
 use Rattle.h5w_words.specs.declared.job.Job.TheVariants.{Play, New, Check, Poll, Clear, Make, Append, Live, Stop, Repack}

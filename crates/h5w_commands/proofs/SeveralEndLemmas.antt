@@ -1,11 +1,10 @@
 -- How an append to several datasets of a file ends.
-use Rattle.std.proofs.Common.{◌≡◌, ◌⊎◌, ℕ, Bool, true, false, List, [], ◌∷◌, ◌++◌, append_assoc, Option, Some, None, Result, Ok, Err, refl, sym, subst, ap, ap₂, ◌∙◌, inl, inr, arith}
-use Rattle.std.specs.Prelude.{◌≤◌, IfSome, if◌then◌else◌, length}
+use Rattle.std.proofs.Common.{◌≡◌, ◌⊎◌, ℕ, Bool, true, false, List, [], ◌∷◌, ◌++◌, append_assoc, Option, Some, Result, Ok, Err, refl, sym, subst, ap, ap₂, ◌∙◌, inl, inr, arith}
+use Rattle.std.specs.Prelude.{IfSome, if◌then◌else◌}
 use Rattle.h5w_model.specs.Causes.{Rose}
 use Rattle.h5w_model.specs.Datasets.{Described}
-use Rattle.h5w_model.specs.Lawful.{first_outside}
 use Rattle.h5w_model.specs.Relations.{AllPaired}
-use Rattle.h5w_image.specs.View.{DiskView, file}
+use Rattle.h5w_image.specs.View.{DiskView}
 use Rattle.h5w_opening.specs.Openings.{Opened}
 use Rattle.h5w_opening.specs.declared.error.OpenError.TheVariants as opens
 use Rattle.h5w_text.specs.Errors.{error_text}
@@ -16,9 +15,8 @@ use Rattle.h5w_text.specs.declared.error.ErrorLine.{ErrorLine}
 use Rattle.h5w_text.specs.declared.error.ErrorLine.TheVariants as errors
 use Rattle.h5w_text.specs.declared.status.Status.{Status}
 use Rattle.h5w_text.specs.declared.status.Status.TheVariants as statuses
-use Rattle.h5w_batches.specs.Inputs.{AreFirst, AreWithin, input_limit}
+use Rattle.h5w_batches.specs.Inputs.{AreFirst, AreWithin}
 use Rattle.h5w_files.specs.Ends.{EndsBehind, status_by}
-use Rattle.h5w_files.specs.Images.{told_bytes}
 use Rattle.h5w_files.proofs.ClearLemmas.{any_told}
 use Rattle.h5w_files.proofs.SinkLemmas.{gave_nothing}
 use Rattle.h5w_batches.proofs.InputLemmas.{rose_before}
@@ -28,7 +26,7 @@ use Rattle.h5w_several_batches.specs.SetLines.{set_line_of, used_after, used_by}
 use Rattle.h5w_several_batches.specs.SetInputs.{AreSaid}
 use Rattle.h5w_several_batches.specs.declared.line.SetLine.{SetLine}
 use Rattle.h5w_several_batches.specs.declared.line.SetLine.TheVariants.{Numbers, Use}
-use Rattle.h5w_several_appending.specs.Taken.{SetBatches, after_all, after_said, after_values, close_each, columns_of, end_each, no_sets, none_waits, rows_with}
+use Rattle.h5w_several_appending.specs.Taken.{SetBatches, after_all, after_said, close_each, columns_of, end_each, no_sets, none_waits, rows_with}
 use Rattle.h5w_several_appending.specs.Tells.{AtLine, IsWhy, SeveralEnds, TellsNone, TellsSome, TellsTo, TellsUpTo, TellsWhy, Unopened, of_line, of_range, of_chunks, of_room, of_depth, of_input, of_source, of_memory}
 use Rattle.h5w_several_open.specs.declared.beginning.Beginning.{Beginning}
 use Rattle.h5w_commands.specs.Appending.{AllSay, HasSeveralInput, IsWithin, SeveralEndsWell}

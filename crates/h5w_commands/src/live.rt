@@ -7,24 +7,11 @@ ghost use Rattle.h5w_running.specs.Ends.{LiveEnds, LiveEndsWell, LiveTells};
 
 use h5w_image::Gate;
 use h5w_options::Options;
-use h5w_running::{Ended, run_live};
+use h5w_running::{Ended, Readers, run_live};
 use h5w_text::{Sink, Source};
 use std::alloc::Global;
 use std::sync::Wait;
 use std::thread::Threads;
-
-/// The readers of a run.
-#[derive(Clone, Copy)]
-pub struct Readers {
-    /// How many there are.
-    pub count: u32,
-    /// How many calls each of them makes.
-    pub polls: u32,
-    /// How often a call may look at a dataset header that changes.
-    pub attempts: u32,
-    /// How many readers a second image has.
-    pub mirrors: u32,
-}
 
 /// Runs in threads a writer of the source's batches on a new file in memory by these options, and readers that poll beside it, and writes
 /// what they report, as [`run_live`] says.
@@ -47,16 +34,5 @@ pub fn live<R: Threads + Wait + Sync, S: Source, K: Sink, G: Gate>(
     ensures completes { LiveEndsWell (asked_by options.now readers.count readers.polls readers.attempts readers.mirrors) result (S.view source.old) (S.view source.new) (K.view sink.old) (K.view sink.new) }
     ensures source { SameSource (S.view source.old) (S.view source.new) }
 {
-    run_live(
-        rt,
-        alloc,
-        options,
-        readers.count,
-        readers.polls,
-        readers.attempts,
-        readers.mirrors,
-        source,
-        sink,
-        gate,
-    )
+    run_live(rt, alloc, options, readers, source, sink, gate)
 }

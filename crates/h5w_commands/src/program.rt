@@ -4,10 +4,10 @@ ghost use Rattle.h5w_words.specs.Commands.{job_of};
 ghost use Rattle.h5w_batches.specs.Inputs.{SameSource};
 ghost use Rattle.h5w_commands.specs.Runs.{Ran, RanInside, RanWhole};
 
-use crate::live::{Readers, live};
+use crate::live::live;
 use crate::plain::plain;
 use h5w_image::{Disk, Gate};
-use h5w_running::Ended;
+use h5w_running::{Ended, Readers};
 use h5w_text::{ErrorLine, Sink, Source, say_line};
 use h5w_words::{Job, WordsError, read_words};
 use std::alloc::Global;

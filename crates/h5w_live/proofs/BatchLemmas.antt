@@ -176,8 +176,8 @@ module _ (f : CreatedFile) (most : ℕ) (done : List (List ℤ)) (s : Session) (
     pub facts : PieceLeaves s2 [] s3
     facts = piece_leaves s2 s3 [] after
 
-    is_flushing : s2.flushing ≡ true
-    is_flushing = takes.flushing (waits_some s1 v1 (x ∷ xs) early rows a (omega arith))
+    ends_flush : s2.flushing ≡ true
+    ends_flush = takes.flushing (waits_some s1 v1 (x ∷ xs) early rows a (omega arith))
 
     pub dataset_is : s3.dataset ≡ with_rows s3.dataset.shape.rows (described_of f)
     dataset_is =
@@ -221,7 +221,7 @@ module _ (f : CreatedFile) (most : ℕ) (done : List (List ℤ)) (s : Session) (
         (few_of f ((length (values_in done) + length (x ∷ xs)) / f.columns) few)
 
     committed_is : s3.committed ≡ s2.dataset.shape.rows
-    committed_is = facts.brings is_flushing refl
+    committed_is = facts.brings ends_flush refl
 
     line_rows : line.rows ≡ s.dataset.shape.rows + rows.0
     line_rows = rows_are ∙ committed_is ∙ all_rows

@@ -47,14 +47,14 @@ module _ (ν : Sym) (a b n e d : NamedLft) (R G : RattleType) (r : IsSync R) (g 
 name_is_shared : IsSync (UInt w8)
 name_is_shared = search sendable
 
--- what the readers of the first image take: the handle, where memory is had, the image, their seats, the name, numbers and the gate
+-- what the readers of an image take: the image, their seats and how many are before them, the handle, where memory is had, the name, numbers and the gate
 module _ (ν : Sym) (a b n d : NamedLft) (R S G : RattleType) (r : IsSync R) (s : IsSend S) (g : IsSync G) where
   abbrev pub reading_takes : List RattleType
-  reading_takes = ShrRef a.mir a.lft (param 0 R) ∷ heap ∷ ShrRef b.mir b.lft image_row ∷ S ∷ ShrSlice n.mir n.lft (UInt w8) ∷ UInt w32 ∷ UInt w32 ∷ ShrRef d.mir d.lft (param 1 G) ∷ []
+  reading_takes = ShrRef b.mir b.lft image_row ∷ S ∷ UInt w32 ∷ ShrRef a.mir a.lft (param 0 R) ∷ heap ∷ ShrSlice n.mir n.lft (UInt w8) ∷ UInt w32 ∷ UInt w32 ∷ ShrRef d.mir d.lft (param 1 G) ∷ []
 
-  pub first_sent : IsSend (TupleAt ν reading_takes)
-  first_sent =
+  pub readers_sent : IsSend (TupleAt ν reading_takes)
+  readers_sent =
       captures_sent ν reading_takes (
-        shr_send a.mir a.lft (param 0 R) (param_sync 0 R r),
-        (heap_sent, (shr_send b.mir b.lft image_row image_is_shared, (s, (shr_slice_send n.mir n.lft (UInt w8) name_is_shared, (u32_sent, (u32_sent, (shr_send d.mir d.lft (param 1 G) (param_sync 1 G g), tt))))))),
+        shr_send b.mir b.lft image_row image_is_shared,
+        (s, (u32_sent, (shr_send a.mir a.lft (param 0 R) (param_sync 0 R r), (heap_sent, (shr_slice_send n.mir n.lft (UInt w8) name_is_shared, (u32_sent, (u32_sent, (shr_send d.mir d.lft (param 1 G) (param_sync 1 G g), tt)))))))),
       )

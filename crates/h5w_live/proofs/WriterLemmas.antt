@@ -10,12 +10,11 @@ use Rattle.h5w_creation_laws.specs.CreatedFiles.{CreatedFile, created_writes}
 use Rattle.h5w_writer.specs.Sessions.{AreRows, Session}
 use Rattle.h5w_writer.specs.declared.refusal.AppendError.{AppendError}
 use Rattle.h5w_writer.specs.declared.refusal.AppendError.TheVariants as errors
-use Rattle.h5w_space.specs.declared.Full.{Full}
 use Rattle.h5w_shared.specs.Seats.{SeatView}
 use Rattle.h5w_live_laws.proofs.LineLemmas.{agree_empty, values_more}
 use Rattle.h5w_live.specs.declared.writing.Halt.{Halt}
 use Rattle.h5w_live.specs.declared.writing.Halt.TheVariants as halts
-use Rattle.h5w_live.specs.Writing.{AreBatches, Explains, HasFlushed, LacksPlace, Refuses, batch_refusal, first_refused}
+use Rattle.h5w_live.specs.Writing.{AreBatches, Explains, HasFlushed, Refuses, batch_refusal, first_refused}
 use Rattle.h5w_reader_laws.specs.Showing.{showing}
 use Rattle.h5w_live.proofs.RowLemmas.{batch_rows, batches_more}
 use Rattle.h5w_live.proofs.WritingLemmas.{put_empty}

@@ -6,3 +6,4 @@ pub use Rattle.h5w_live_reading.specs.Ends
 pub mod Writing
 pub mod Seconds
 pub mod Reports
+pub mod Threads

@@ -10,15 +10,18 @@ mod creating;
 mod following;
 mod joining;
 mod lists;
+mod readers;
 mod release;
 mod report;
 mod running;
 mod seated;
+mod seats;
 mod seconds;
 mod threads;
 mod writer;
 mod writing;
 
 pub use lists::{Batches, FlushLines, PollLines};
+pub use readers::Readers;
 pub use report::{LiveError, LiveReport};
 pub use running::live;

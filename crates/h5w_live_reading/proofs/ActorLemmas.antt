@@ -7,10 +7,13 @@ use Rattle.h5w_model.specs.declared.report.PollLine.{PollLine}
 use Rattle.h5w_shared.specs.Seats.{ImageId, NoteView, SeatView}
 use Rattle.h5w_laws.proofs.ResultLemmas.{err_is}
 use Rattle.h5w_live_reading.specs.Ends.{EndWith, EndsWith, ReaderEnds, ReadersEnd, StraysWith}
+use Rattle.h5w_live_reading.specs.Seats.{ReadersLeave}
 use Rattle.h5w_live_reading.specs.declared.actors.AllEnded.{AllEnded}
+use Rattle.h5w_live_reading.specs.declared.actors.Calls.{Calls}
 use Rattle.h5w_live_reading.specs.declared.actors.Cut.{Cut}
 use Rattle.h5w_live_reading.specs.declared.actors.Cut.TheVariants as cuts
 use Rattle.h5w_live_reading.specs.declared.actors.Ended.{Ended}
+use Rattle.h5w_live_reading.specs.declared.actors.Seated.{Seated}
 use Rattle.h5w_live_reading.proofs.PartLemmas.{parts_more}
 
 get_front : {A : Type 0} (xs : List A) (x d : A) (k : ℕ) → k < length xs → get_or (xs ++ x ∷ []) k d ≡ get_or xs k d
@@ -88,3 +91,7 @@ read_more g i before calls all front x n m reader seen others last r is h count 
     subst (λ k. ReadersEnd g i before calls k seen r) (sym count)
     (both g i before calls m seen (rest seen (all_front P all front x is h))
     (subst (λ (ws : List Write). ReaderEnds g i calls (before + m + 1) ws last) (all_last P all front x is h) (subst (λ k. ReaderEnds g i calls k x.seen last) number one)))
+
+-- the same of equal calls and readers
+pub leave_at : (k l : Calls) (r s : Seated) (ended : Result AllEnded Cut) → k ≡ l → r ≡ s → ReadersLeave k r ended → ReadersLeave l s ended
+leave_at k l r s ended calls readers h = subst (λ (x : Calls). ReadersLeave x s ended) calls (subst (λ (x : Seated). ReadersLeave k x ended) readers h)

@@ -6,4 +6,4 @@ mod actors;
 mod call;
 mod reading;
 
-pub use actors::{AllEnded, Cut, read_all};
+pub use actors::{AllEnded, Calls, Cut, Seated, read_all};

@@ -3,7 +3,7 @@ ghost use Rattle.std.specs.Prelude.{◌≡◌, ◌≢◌, ◌<◌, ◌≤◌, �
 ghost use Rattle.std.specs.Int.{int_wrap, w128};
 ghost use Rattle.h5w_model.specs.Agrees.{total};
 ghost use Rattle.h5w_reader.specs.Cores as cores;
-ghost use Rattle.h5w_reader.specs.Readers.{new_reader, reader_rules};
+ghost use Rattle.h5w_reader.specs.Readers.{new_reader};
 ghost use Rattle.h5w_live_laws.specs.Laws.{IsStray};
 ghost use Rattle.h5w_live_laws.specs.Polls as laws;
 ghost use Rattle.h5w_live_laws.specs.Polls.{AnswersPoll};
@@ -11,7 +11,9 @@ ghost use Rattle.h5w_model.specs.Calls.{rows_seen};
 ghost use Rattle.h5w_model.specs.Unfinished.{wanted};
 ghost use Rattle.h5w_model.specs.declared.refusal.ReadError.{ReadError};
 ghost use Rattle.h5w_live_reading.specs.Reading.{IsBegun, IsReady, Polled, ReadsThrough, Strays};
+ghost use Rattle.h5w_live_reading.specs.Seats.{rules_of};
 
+use crate::actors::Calls;
 use crate::call::answered;
 use h5w_image::{Failed, Gate};
 use h5w_model::{OutOfMemory, Poll, PollLine, ReadError, Values};
@@ -215,26 +217,24 @@ fn polls_of<R: Wait, G: Gate>(
     Ok(lines)
 }
 
-/// The calls of a reader: the first opens the dataset of this name, each other refreshes. Where one finds rows, those are read that were not
+/// These calls of a reader: the first opens the dataset, each other refreshes. Where one finds rows, those are read that were not
 /// known before it. The reader comes to its turn after each.
 pub fn polls<R: Wait, G: Gate>(
     rt: &R,
     alloc: Global,
     image: &SharedImage,
     seat: &mut ReaderSeat,
-    name: &[u8],
-    attempts: u32,
+    calls: Calls<'_>,
     reader: u32,
-    calls: u32,
     gate: &G,
 ) -> Result<Vec<PollLine>, Stop>
     requires image { seat.old.image ≡ image.now }
     ensures image { seat.new.image ≡ image.now }
-    ensures count { IfOk result (λ lines. vec_len lines ≡ calls) }
-    ensures lines { IfOk result (λ lines. Polled (reader_rules name.now attempts) image.now.start reader seat.old.seen seat.new.seen lines.items) }
-    ensures stray { result ≡ Err Stop.Stray → Strays (reader_rules name.now attempts) image.now.start reader seat.old.seen seat.new.seen }
+    ensures count { IfOk result (λ lines. vec_len lines ≡ calls.entry.count) }
+    ensures lines { IfOk result (λ lines. Polled (rules_of calls.entry) image.now.start reader seat.old.seen seat.new.seen lines.items) }
+    ensures stray { result ≡ Err Stop.Stray → Strays (rules_of calls.entry) image.now.start reader seat.old.seen seat.new.seen }
     ensures failed { result ≡ Err Stop.Failed → 0 < seat.new.faults }
 {
-    let mut core = ReaderCore::open(alloc, name, attempts)?;
-    polls_of(rt, alloc, image, seat, &mut core, reader, calls, gate)
+    let mut core = ReaderCore::open(alloc, calls.name, calls.attempts)?;
+    polls_of(rt, alloc, image, seat, &mut core, reader, calls.count, gate)
 }

@@ -4,7 +4,7 @@ ghost use Rattle.h5w_live.specs.Writing.{AreBatches, AreWholeRows};
 ghost use Rattle.h5w_options.specs.Options.{AreOptions, columns_in};
 
 use h5w_image::Gate;
-use h5w_live::{Batches, LiveReport, live};
+use h5w_live::{Batches, LiveReport, Readers, live};
 use h5w_model::{Bytes, Values};
 use h5w_options::{IntType, Options};
 use std::alloc::{AllocError, Global};
@@ -75,7 +75,13 @@ pub fn report_of<R: Threads + Wait + Sync, G: Gate>(
 {
     let options = options(alloc, chunk_rows, budget)?;
     let batches = batches(alloc, of)?;
-    match live(rt, alloc, &options, &batches, readers, 2, 8, mirrors, gate) {
+    let readers = Readers {
+        count: readers,
+        polls: 2,
+        attempts: 8,
+        mirrors,
+    };
+    match live(rt, alloc, &options, &batches, readers, gate) {
         Ok(report) => Ok(report),
         Err(_) => Err("the run was refused".into()),
     }

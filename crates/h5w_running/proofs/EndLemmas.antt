@@ -13,7 +13,7 @@ use Rattle.h5w_text.specs.Errors.{error_text}
 use Rattle.h5w_text.specs.Says.{Said, SaidUnlessMemory, whole, failed}
 use Rattle.h5w_input.specs.Scripts.{number_line_of}
 use Rattle.h5w_text.specs.Statuses.{status_of}
-use Rattle.h5w_text.specs.Streams.{Gave, GaveSome, SinkView, SourceView}
+use Rattle.h5w_text.specs.Streams.{SinkView, SourceView}
 use Rattle.h5w_text.specs.declared.error.ErrorLine.{ErrorLine}
 use Rattle.h5w_text.specs.declared.error.ErrorLine.TheVariants as errors
 use Rattle.h5w_text.specs.declared.status.Status.{Status}

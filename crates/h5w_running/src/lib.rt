@@ -8,4 +8,5 @@ mod running;
 mod text;
 
 pub use ended::Ended;
+pub use h5w_live::Readers;
 pub use running::run_live;

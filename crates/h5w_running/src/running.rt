@@ -17,7 +17,7 @@ use crate::refusal::Refusal;
 use crate::text::text_of;
 use h5w_batches::{BatchError, read_batches};
 use h5w_image::Gate;
-use h5w_live::{Batches, LiveError, LiveReport, live};
+use h5w_live::{Batches, LiveError, LiveReport, Readers, live};
 use h5w_options::Options;
 use h5w_text::{ErrorLine, Sink, Source, Status, say, say_line, tell};
 use std::alloc::Global;
@@ -86,25 +86,20 @@ fn reported<R: Threads + Wait + Sync, G: Gate>(
     alloc: Global,
     options: &Options,
     batches: &Batches,
-    readers: u32,
-    polls: u32,
-    attempts: u32,
-    mirrors: u32,
+    readers: Readers,
     gate: &G,
 ) -> Result<LiveReport, Refusal>
     requires options { AreOptions options.now }
     requires rows { AreBatches (columns_in options.now.columns) batches.now }
-    requires readers { (1 ≤ readers) × (readers ≤ 16) }
-    requires polls { (1 ≤ polls) × (polls ≤ 10000) }
-    requires attempts { AreAttempts attempts }
-    requires mirrors { mirrors ≤ 16 }
-    ensures reports { IfOk result (λ r. Reports (new_file options.now) batches.now attempts (readers + mirrors) polls r) }
+    requires readers { (1 ≤ readers.count) × (readers.count ≤ 16) }
+    requires polls { (1 ≤ readers.polls) × (readers.polls ≤ 10000) }
+    requires attempts { AreAttempts readers.attempts }
+    requires mirrors { readers.mirrors ≤ 16 }
+    ensures reports { IfOk result (λ r. Reports (new_file options.now) batches.now readers.attempts (readers.count + readers.mirrors) readers.polls r) }
     ensures accepted { OnOk result (first_refused (new_file options.now) 0 1 batches.now ≡ None) }
     ensures halts { IfErr result (λ e. Halts (new_file options.now) options.now.limit batches.now e) }
 {
-    match live(
-        rt, alloc, options, batches, readers, polls, attempts, mirrors, gate,
-    ) {
+    match live(rt, alloc, options, batches, readers, gate) {
         Ok(report) => Ok(report),
         Err(error) => Err(refusal_of(error)),
     }
@@ -126,33 +121,28 @@ fn told<R: Threads + Wait + Sync, S: Source, G: Gate>(
     rt: &R,
     alloc: Global,
     options: &Options,
-    readers: u32,
-    polls: u32,
-    attempts: u32,
-    mirrors: u32,
+    readers: Readers,
     source: &mut S,
     gate: &G,
 ) -> Result<Vec<u8>, Refusal>
     requires options { AreOptions options.now }
-    requires readers { (1 ≤ readers) × (readers ≤ 16) }
-    requires polls { (1 ≤ polls) × (polls ≤ 10000) }
-    requires attempts { AreAttempts attempts }
-    requires mirrors { mirrors ≤ 16 }
-    ensures tells { IfOk result (λ text. (r : Report) × Tells (asked_by options.now readers polls attempts mirrors) (S.view source.old) (S.view source.new) r text.items) }
-    ensures refused { IfErr result (λ e. Refuses (asked_by options.now readers polls attempts mirrors) (S.view source.old) (S.view source.new) e) }
+    requires readers { (1 ≤ readers.count) × (readers.count ≤ 16) }
+    requires polls { (1 ≤ readers.polls) × (readers.polls ≤ 10000) }
+    requires attempts { AreAttempts readers.attempts }
+    requires mirrors { readers.mirrors ≤ 16 }
+    ensures tells { IfOk result (λ text. (r : Report) × Tells (asked_by options.now readers.count readers.polls readers.attempts readers.mirrors) (S.view source.old) (S.view source.new) r text.items) }
+    ensures refused { IfErr result (λ e. Refuses (asked_by options.now readers.count readers.polls readers.attempts readers.mirrors) (S.view source.old) (S.view source.new) e) }
     ensures source { SameSource (S.view source.old) (S.view source.new) }
 {
     let batches = match read(alloc, columns(options), source) {
         Ok(batches) => batches,
         Err(refusal) => return Err(refusal),
     };
-    let report = match reported(
-        rt, alloc, options, &batches, readers, polls, attempts, mirrors, gate,
-    ) {
+    let report = match reported(rt, alloc, options, &batches, readers, gate) {
         Ok(report) => report,
         Err(refusal) => return Err(refusal),
     };
-    let mirrored = mirrored_in(mirrors, &report);
+    let mirrored = mirrored_in(readers.mirrors, &report);
     match text_of(
         alloc,
         report.flushes.as_slice(),
@@ -178,34 +168,28 @@ fn refuse<K: Sink>(alloc: Global, refusal: Refusal, sink: &mut K) -> Ended
 }
 
 /// Reads the batches of the input to its end. Then creates a file in memory by these options, and runs in threads one writer that appends and
-/// flushes the batches, and so many readers that make so many calls each, with at most so many attempts; `mirrors` readers more look at a
-/// second image. Writes a line for each flush, a line for each call of each reader, how many pieces a second image has, and how many rows there
-/// are; or why not.
+/// flushes the batches, and these readers, each of which makes its calls. Writes a line for each flush, a line for each call of each reader,
+/// how many pieces a second image has, and how many rows there are; or why not.
 pub fn run_live<R: Threads + Wait + Sync, S: Source, K: Sink, G: Gate>(
     rt: &R,
     alloc: Global,
     options: &Options,
-    readers: u32,
-    polls: u32,
-    attempts: u32,
-    mirrors: u32,
+    readers: Readers,
     source: &mut S,
     sink: &mut K,
     gate: &G,
 ) -> Ended
     requires options { AreOptions options.now }
-    requires readers { (1 ≤ readers) × (readers ≤ 16) }
-    requires polls { (1 ≤ polls) × (polls ≤ 10000) }
-    requires attempts { AreAttempts attempts }
-    requires mirrors { mirrors ≤ 16 }
-    ensures ran { LiveTells (asked_by options.now readers polls attempts mirrors) result (S.view source.old) (S.view source.new) (K.view sink.old) (K.view sink.new) }
-    ensures inside { LiveEnds (asked_by options.now readers polls attempts mirrors) result (S.view source.old) (S.view source.new) (K.view sink.old) (K.view sink.new) }
-    ensures completes { LiveEndsWell (asked_by options.now readers polls attempts mirrors) result (S.view source.old) (S.view source.new) (K.view sink.old) (K.view sink.new) }
+    requires readers { (1 ≤ readers.count) × (readers.count ≤ 16) }
+    requires polls { (1 ≤ readers.polls) × (readers.polls ≤ 10000) }
+    requires attempts { AreAttempts readers.attempts }
+    requires mirrors { readers.mirrors ≤ 16 }
+    ensures ran { LiveTells (asked_by options.now readers.count readers.polls readers.attempts readers.mirrors) result (S.view source.old) (S.view source.new) (K.view sink.old) (K.view sink.new) }
+    ensures inside { LiveEnds (asked_by options.now readers.count readers.polls readers.attempts readers.mirrors) result (S.view source.old) (S.view source.new) (K.view sink.old) (K.view sink.new) }
+    ensures completes { LiveEndsWell (asked_by options.now readers.count readers.polls readers.attempts readers.mirrors) result (S.view source.old) (S.view source.new) (K.view sink.old) (K.view sink.new) }
     ensures source { SameSource (S.view source.old) (S.view source.new) }
 {
-    match told(
-        rt, alloc, options, readers, polls, attempts, mirrors, source, gate,
-    ) {
+    match told(rt, alloc, options, readers, source, gate) {
         Ok(text) => Ended::With(say(&text, Status::Done, sink)),
         Err(refusal) => refuse(alloc, refusal, sink),
     }

@@ -1,19 +1,24 @@
-use Rattle.std.proofs.Common.{◌≡◌, All, List, rules, subst, vec_len}
+use Rattle.std.proofs.Common.{◌≡◌, All, rules, ap, arith, subst, sym, vec_len}
 use Rattle.std.specs.Prelude.{IfSome, Option}
-use Rattle.h5w_model.specs.declared.piece.Write.{Write}
 use Rattle.h5w_shared.specs.Seats.{SeatView}
-use Rattle.h5w_live.specs.Seconds.{IsSecondOf}
-use Rattle.h5w_live.specs.declared.following.Second.{Second}
+use Rattle.h5w_live.specs.Seconds.{IsWatched, watchers}
+use Rattle.h5w_live.specs.declared.seats.Watched.{Watched}
 use Rattle.h5w_live.proofs.SecondLemmas.{readers_there}
 use Rattle.h5w_live.proofs.threads.run_all.Goals as goal
 
+pub run_mirrored-follow-requires-clause-mirrored : goal.run_mirrored-follow-requires-clause-mirrored
+run_mirrored-follow-requires-clause-mirrored g c κs within =
+    let w : IsWatched c.args.writer.image.now c.in-Some.field-0 = subst (λ (o : Option Watched). IfSome o (IsWatched c.args.writer.image.now)) c.in-Some.is c.requires.watched in
+    let before : c.len-before.result ≡ vec_len c.args.seats = search rules in
+    record { first = w.second.first; second = w.second.second; readers = record { images = w.images; few = omega (arith, w.few, c.requires.few, before) } }
+
 pub returns-clause-beside : goal.returns-clause-beside
 returns-clause-beside g c = λ seen begun.
-    let second : IsSecondOf c.args.image.now c.in-Some.field-0 = subst (λ (o : Option Second). IfSome o (IsSecondOf c.args.image.now)) c.in-Some.is c.requires.second in
-    let first : c.in-Some.field-0.follow.second.seen ≡ seen = subst (λ (o : Option Second). IfSome o (λ s. s.follow.second.seen ≡ seen)) c.in-Some.is begun in
-    let seats : All (λ (s : SeatView). s.seen ≡ seen) c.in-Ok.others.items =
-    subst (λ (ws : List Write). All (λ (s : SeatView). s.seen ≡ ws) c.in-Ok.others.items) first c.in-Ok.ensures.seen in
+    let w : IsWatched c.args.writer.image.now c.in-Some.field-0 = subst (λ (o : Option Watched). IfSome o (IsWatched c.args.writer.image.now)) c.in-Some.is c.requires.watched in
+    let seats : All (λ (s : SeatView). s.seen ≡ seen) c.in-Some.field-0.seats.items =
+    subst (λ (o : Option Watched). IfSome o (λ w. All (λ (s : SeatView). s.seen ≡ seen) w.seats.items)) c.in-Some.is begun in
+    let count : vec_len c.in-Some.field-0.seats ≡ watchers c.args.watched = sym (ap watchers c.in-Some.is) in
     record {
-      second = record { first = c.run_mirrored-follow.ensures.first; second = c.run_mirrored-follow.ensures.second; start = second.start };
-      ends = readers_there _ _ _ (vec_len c.args.seats) _ _ c.args.mirrors seen _ (c.run_mirrored-follow.ensures.beside seen seats) (search rules) c.in-Ok.ensures.count;
+      second = record { first = c.run_mirrored-follow.ensures.first; second = c.run_mirrored-follow.ensures.second; start = w.second.start };
+      ends = readers_there _ _ _ (vec_len c.args.seats) _ _ (watchers c.args.watched) seen _ (c.run_mirrored-follow.ensures.beside seen seats) (search rules) count;
     }

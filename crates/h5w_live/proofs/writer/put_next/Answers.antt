@@ -1,4 +1,4 @@
-use Rattle.std.proofs.Common.{rules, Err, ap, sym, ◌∙◌, subst}
+use Rattle.std.proofs.Common.{rules, sym, subst}
 use Rattle.std.specs.Prelude.{List, ◌++◌, ◌∷◌, []}
 use Rattle.h5w_model.specs.declared.report.FlushLine.{FlushLine}
 use Rattle.h5w_live.specs.Writing.{HasFlushed}

@@ -1,0 +1,5 @@
+use Rattle.h5w_live_reading.proofs.ActorLemmas.{leave_at}
+use Rattle.h5w_live.proofs.threads.fn.run.join+arg2.Goals as goal
+
+pub returns : goal.returns
+returns g c = leave_at _ _ _ _ c.read_all.result c.new.ensures c.new-readers.ensures c.read_all.ensures
