@@ -8,7 +8,6 @@ use Rattle.h5w_model.specs.Datasets.{linked}
 use Rattle.h5w_model.specs.Datasets as model
 use Rattle.h5w_model.specs.Calls.{CallRules, cut_header, behind_header, confirmed, again, attempts_from, rows_call}
 use Rattle.h5w_model.specs.Tables.{Reading}
-use Rattle.h5w_model.specs.declared.message.Msg.{Msg}
 use Rattle.h5w_model.specs.declared.refusal.LinkError.{LinkError}
 use Rattle.h5w_model.specs.declared.refusal.LinkError.TheVariants as link_errors
 use Rattle.h5w_model.specs.declared.refusal.ReadError.{ReadError}

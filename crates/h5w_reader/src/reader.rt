@@ -1,9 +1,9 @@
 //! A reader of one dataset.
-ghost use Rattle.std.specs.Prelude.{◌≡◌, ◌≢◌, ℕ, ◌+◌, ◌≤◌, ◌^◌, length, Some, None, IsSome, IfOk, IfErr, IfSome, OnOk, OnErr, MatchOption, option_map};
+ghost use Rattle.std.specs.Prelude.{◌≡◌, ◌≢◌, ℕ, List, ◌+◌, ◌≤◌, ◌^◌, length, Some, None, IsSome, IfOk, IfErr, IfSome, OnOk, OnErr, MatchOption, option_map};
 ghost use Rattle.h5w_model.specs.Calls.{rows_seen};
 ghost use Rattle.h5w_model.specs.Unfinished.{rows_left, values_left, fed_left, rows_program, values_program, wanted, with_left};
 ghost use Rattle.h5w_lookup.specs.Looks.{look_of, IsWithinLook};
-ghost use Rattle.h5w_reader.specs.Readers.{BegunRead, IsRefusedRead, StepTells, begin_refusal, read_refusal, new_reader, reader_rules, reads_left, valued_left};
+ghost use Rattle.h5w_reader.specs.Readers.{BegunRead, IsRefusedRead, StepTells, begin_refusal, left_of, read_refusal, new_reader, reader_of, reader_rules, reads_left, valued_left};
 ghost use Rattle.h5w_reader.specs.declared.call.Call.TheVariants as calls;
 ghost use Rattle.h5w_reader.specs.declared.values.Reads.{Reads};
 ghost use Rattle.h5w_reader.specs.declared.step.ReadBegin.{ReadBegin};
@@ -47,6 +47,64 @@ fn feed_read(
     match known {
         Some(known) => reads.feed(alloc, known, piece),
         None => unreachable!(),
+    }
+}
+
+/// Goes on with a call for the rows. What is left of it is in `call` then.
+fn give_rows(
+    alloc: Global,
+    attempts: u32,
+    name: &[u8],
+    known: &mut Option<Known>,
+    call: &mut Option<Call>,
+    stage: Stage,
+    piece: &Piece,
+) -> Step
+    requires taken { call.old ≡ None }
+    requires within { IsWithinLook (wanted (left_of attempts name.now known.old (Some (calls.Rows stage)))) (length piece.now) }
+    ensures told { StepTells (option_map (fed_left piece.now) (left_of attempts name.now known.old (Some (calls.Rows stage)))) (reader_of name.now attempts known.old (Some (calls.Rows stage))) result (reader_of name.now attempts known.new call.new) }
+    ensures wanting { result ≡ steps.More → IsSome (wanted (left_of attempts name.now known.new call.new)) }
+    ensures kind { (reads : Reads) → call.new ≢ Some (calls.Values reads) }
+{
+    match stage.feed(alloc, attempts, name, known, piece) {
+        Ok(Outcome::Done(news)) => {
+            let rows = news.dataset.shape.rows;
+            match learn(alloc, known, news) {
+                Ok(()) => Step::Rows(rows),
+                Err(OutOfMemory) => Step::Refused(ReadError::OutOfMemory),
+            }
+        }
+        Ok(Outcome::Refused(error)) => Step::Refused(error),
+        Ok(Outcome::Looks(stage)) => {
+            *call = Some(Call::Rows(stage));
+            Step::More
+        }
+        Err(OutOfMemory) => Step::Refused(ReadError::OutOfMemory),
+    }
+}
+
+/// Goes on with a read of the known dataset. What is left of it is in `call` then.
+fn give_values(
+    alloc: Global,
+    known: &Option<Known>,
+    call: &mut Option<Call>,
+    reads: Reads,
+    piece: &Piece,
+) -> Step
+    requires taken { call.old ≡ None }
+    requires known { known.now ≢ None }
+    requires within { IsWithinLook (wanted (reads_left known.now reads)) (length piece.now) }
+    ensures told { (most : ℕ) (name : List ℕ) → StepTells (option_map (fed_left piece.now) (reads_left known.now reads)) (reader_of name most known.now (Some (calls.Values reads))) result (reader_of name most known.now call.new) }
+    ensures wanting { result ≡ steps.More → (most : ℕ) (name : List ℕ) → IsSome (wanted (left_of most name known.now call.new)) }
+{
+    match feed_read(alloc, known, reads, piece) {
+        Ok(Outcome::Done(values)) => Step::Values(values),
+        Ok(Outcome::Refused(error)) => Step::Refused(error),
+        Ok(Outcome::Looks(reads)) => {
+            *call = Some(Call::Values(reads));
+            Step::More
+        }
+        Err(OutOfMemory) => Step::Refused(ReadError::OutOfMemory),
     }
 }
 
@@ -180,43 +238,30 @@ impl ReaderCore {
     }
 
     /// Goes on with the piece that the wanted look gave, whatever is awaited.
+    // An idle refresh does not come here: its instructions stay few where this is no part of them.
+    #[inline(never)]
     fn go_on(&mut self, piece: &Piece) -> Step
         requires { IsWithinLook (wanted (reader self.old).left) (length piece.now) }
         ensures told { StepTells (option_map (fed_left piece.now) (reader self.old).left) (reader self.old) result (reader self.new) }
         ensures wanting { result ≡ steps.More → IsSome (wanted (reader self.new).left) }
     {
-        let name = self.name.as_slice();
         match self.call.take() {
-            Some(Call::Rows(stage)) => match stage.feed(
+            Some(Call::Rows(stage)) => give_rows(
                 self.alloc,
                 self.attempts,
-                name,
-                &self.known,
+                self.name.as_slice(),
+                &mut self.known,
+                &mut self.call,
+                stage,
                 piece,
-            ) {
-                Ok(Outcome::Done(news)) => {
-                    let rows = news.dataset.shape.rows;
-                    match learn(self.alloc, &mut self.known, news) {
-                        Ok(()) => Step::Rows(rows),
-                        Err(OutOfMemory) => Step::Refused(ReadError::OutOfMemory),
-                    }
-                }
-                Ok(Outcome::Refused(error)) => Step::Refused(error),
-                Ok(Outcome::Looks(stage)) => {
-                    self.call = Some(Call::Rows(stage));
-                    Step::More
-                }
-                Err(OutOfMemory) => Step::Refused(ReadError::OutOfMemory),
-            },
-            Some(Call::Values(reads)) => match feed_read(self.alloc, &self.known, reads, piece) {
-                Ok(Outcome::Done(values)) => Step::Values(values),
-                Ok(Outcome::Refused(error)) => Step::Refused(error),
-                Ok(Outcome::Looks(reads)) => {
-                    self.call = Some(Call::Values(reads));
-                    Step::More
-                }
-                Err(OutOfMemory) => Step::Refused(ReadError::OutOfMemory),
-            },
+            ),
+            Some(Call::Values(reads)) => give_values(
+                self.alloc,
+                &self.known,
+                &mut self.call,
+                reads,
+                piece,
+            ),
             None => unreachable!(),
         }
     }

@@ -12,6 +12,9 @@ use h5w_lookup::{Gather, Known, Look, Outcome, Progress, address_at, look_at};
 use h5w_model::{BlockFault, OutOfMemory, Piece, ReadError, Values};
 use std::alloc::Global;
 
+/// A read takes memory for so many values at once at most: a mebibyte, whatever the header says.
+const AHEAD: u64 = 65_536;
+
 /// Rows of a dataset of one dimension.
 #[derive(Clone, Copy)]
 pub struct Span {
@@ -232,14 +235,16 @@ impl Reads {
         // from + count is at most these
         let _rows = known.dataset.shape.rows;
         let dataset = known.dataset;
-        let (to, band, none) = (from + count, from / dataset.layout.chunk.0, Vec::new(alloc));
+        let (to, band) = (from + count, from / dataset.layout.chunk.0);
+        let mut values = Vec::new(alloc);
+        values.reserve(count.saturating_mul(dataset.shape.cols).min(AHEAD) as usize)?;
         if dataset.shape.rank == 1 {
-            return Span { dataset, from, to }.go_on(alloc, known, band, none);
+            return Span { dataset, from, to }.go_on(alloc, known, band, values);
         }
         if dataset.shape.cols == 0 {
-            return Ok(Progress::Done(Values::from_vec(none)));
+            return Ok(Progress::Done(Values::from_vec(values)));
         }
-        Grid { dataset, from, to }.go_on(alloc, known, band, none)
+        Grid { dataset, from, to }.go_on(alloc, known, band, values)
     }
 
     /// The next look.

@@ -19,14 +19,14 @@ returns-then-dataset-eq1 c =
     let from = c.args.from in
     let some : 0 < c.args.count = omega arith in
     along (goes k) c.go_on.result _ (values_call r from c.args.count) c.go_on.ensures
-    (ap (rows_rest r from (from + c.args.count) (from / k.dataset.layout.chunk.0)) c.new-none.ensures.items
+    (ap (rows_rest r from (from + c.args.count) (from / k.dataset.layout.chunk.0)) (c.reserve.ensures.items ∙ c.new-values.ensures.items)
     ∙ sym (call_line r from c.args.count (span_line k.dataset c.if-dataset-eq1.true) some))
 
 pub returns-then-dataset-eq0 : goal.returns-then-dataset-eq0
 returns-then-dataset-eq0 c =
     let k = c.args.known.now in
     let r = reading_of k in
-    ap (λ (vs : List ℤ). let p : Prog (Result (List ℤ) ReadError) = ret (Ok vs) in p) (c.from_vec.ensures ∙ c.new-none.ensures.items)
+    ap (λ (vs : List ℤ). let p : Prog (Result (List ℤ) ReadError) = ret (Ok vs) in p) (c.from_vec.ensures ∙ (c.reserve.ensures.items ∙ c.new-values.ensures.items))
     ∙ sym (call_none r c.args.from c.args.count (none_beside k.dataset c.if-dataset-eq0.true) c.if-dataset-eq0.true)
 
 pub returns : goal.returns
@@ -37,5 +37,5 @@ returns c =
     let some : 0 < c.args.count = omega arith in
     let cols : 0 < k.dataset.shape.cols = omega arith in
     along (goes k) c.go_on-2.result _ (values_call r from c.args.count) c.go_on-2.ensures
-    (ap (bands_rest r from (from + c.args.count) (from / k.dataset.layout.chunk.0)) c.new-none.ensures.items
+    (ap (bands_rest r from (from + c.args.count) (from / k.dataset.layout.chunk.0)) (c.reserve.ensures.items ∙ c.new-values.ensures.items)
     ∙ sym (call_grid r from c.args.count (record { cols = cols; chunk_rows = k.dataset.tall; chunk_cols = k.dataset.wide }) some))
